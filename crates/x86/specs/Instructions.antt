@@ -1,0 +1,32 @@
+-- What is said of an instruction as a whole.
+use Prim.Native.Nat.{ℕ, _+_, _%_, _^_}
+use Rattle.std.specs.declared.option.Option.{Option}
+use Rattle.std.specs.declared.option.Option.the-variants.{Some, None}
+use Rattle.x86.specs.declared.instructions.Class.{Class}
+use Rattle.x86.specs.declared.instructions.Class.the-variants as class
+use Rattle.x86.specs.declared.instructions.Direct.{Direct as DirectForm}
+use Rattle.x86.specs.declared.instructions.Direct.the-variants.{Jump, Call, Conditional}
+use Rattle.x86.specs.declared.instructions.Instruction.{Instruction}
+use Rattle.x86.specs.declared.instructions.Instruction.the-variants.{Straight, Direct, Loose}
+use Rattle.x86.specs.declared.instructions.Decoded.{Decoded}
+
+-- the list of forms that an instruction is in
+abbrev pub classOf : Instruction → Class
+classOf (Straight i) = class.Straight
+classOf (Direct i) = class.Direct
+classOf (Loose i) = class.Loose
+
+-- how far a direct form's target lies from its end
+abbrev pub displacementOf : DirectForm → ℕ
+displacementOf (Jump d) = d
+displacementOf (Call d) = d
+displacementOf (Conditional k d) = d
+
+-- the address after the form plus the displacement, modulo 2^32
+abbrev pub target : ℕ → ℕ → Instruction → Option ℕ
+target n p (Straight i) = None
+target n p (Direct i) = Some ((p + n + displacementOf i) % 2 ^ 32)
+target n p (Loose i) = None
+
+abbrev pub targetOf : Decoded → ℕ → Option ℕ
+targetOf d p = target (d .length) p (d .instruction)
