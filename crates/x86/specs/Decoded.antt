@@ -45,9 +45,9 @@ displacementAt (Some w) bs p = (Some (extended w (valueAt w bs p)), p + widthByt
 abbrev pub baseOf : ℕ → ℕ → Option Register
 baseOf m n = cond (eqb m 0 && eqb n 5) None (Some (registerOf n))
 
--- a SIB byte's index: the number 4 is none
-abbrev pub indexOf : ℕ → Index
-indexOf sib = record { register = cond (eqb ((sib / 8) % 8) 4) None (Some (registerOf ((sib / 8) % 8))); scale = scaleOf (sib / 64) }
+-- the index that a SIB byte's scale and index name: the number 4 is no register
+abbrev pub indexOf : ℕ → ℕ → Index
+indexOf s i = record { register = cond (eqb i 4) None (Some (registerOf i)); scale = scaleOf s }
 
 abbrev pub address : Option Register → Option Index → Option ℕ → Address
 address b i d = record { base = b; index = i; displacement = d }
@@ -56,7 +56,7 @@ address b i d = record { base = b; index = i; displacement = d }
 abbrev pub addressAt : List ℕ → ℕ → ℕ → ℕ → Address × ℕ
 addressAt bs p m rm =
     cond (eqb rm 4) (
-      address (baseOf m (getD bs p 0 % 8)) (Some (indexOf (getD bs p 0))) (displacementAt (displacementWidth m (getD bs p 0 % 8)) bs (p + 1) .0),
+      address (baseOf m (getD bs p 0 % 8)) (Some (indexOf (getD bs p 0 / 64) ((getD bs p 0 / 8) % 8))) (displacementAt (displacementWidth m (getD bs p 0 % 8)) bs (p + 1) .0),
       displacementAt (displacementWidth m (getD bs p 0 % 8)) bs (p + 1) .1,
     )
     (address (baseOf m rm) None (displacementAt (displacementWidth m rm) bs p .0), displacementAt (displacementWidth m rm) bs p .1)
@@ -89,10 +89,13 @@ readAt bs p =
     cond (eqb (getD bs p 0) 0x0F) (rowAt bs (p + 2) (lookUp twoByteRows (getD bs (p + 1) 0)))
     (rowAt bs (p + 1) (lookUp oneByteRows (getD bs p 0)))
 
+abbrev pub instructionOf : Instruction → ℕ → Decoded
+instructionOf i n = record { instruction = i; length = n }
+
 -- an instruction with its length, if it ends inside the bytes
 abbrev pub within : List ℕ → ℕ → Option (Instruction × ℕ) → Option Decoded
 within bs p None = None
-within bs p (Some x) = cond (leb (x .1) (length bs)) (Some (record { instruction = x .0; length = x .1 - p })) None
+within bs p (Some x) = cond (leb (x .1) (length bs)) (Some (instructionOf (x .0) (x .1 - p))) None
 
 -- the instruction at a place of the bytes
 abbrev pub decodedAt : List ℕ → ℕ → Option Decoded

@@ -4,3 +4,6 @@ pub mod Meanings
 pub mod Decoded
 pub mod Instructions
 pub mod Pairs
+pub mod Grammar
+pub mod Octets
+pub mod Laws

@@ -2,6 +2,7 @@
 ghost use mathlib.Core.Path.{_≡_};
 ghost use Prim.Native.Nat.{_+_, _*_, _<_, _≤_, _^_};
 ghost use Rattle.std.specs.Options.{Cases};
+ghost use Rattle.x86.specs.Laws.{EveryEncoding, OnlyEncodings};
 ghost use Rattle.x86.specs.Decoded.{longAt, valueAt, displacementWidth, displacementAt, baseOf, indexOf, addressAt, modrmAt, formAt, rowAt, readAt, decodedAt};
 use crate::code::Code;
 use crate::forms::Form;
@@ -72,10 +73,9 @@ fn base(mode: u8, number: u8) -> Option<Register>
     }
 }
 
-fn index(sib: u8) -> Index
-    ensures { λ r. ⌜ r ≡ indexOf sib ⌝ }
+fn index(scale: u8, number: u8) -> Index
+    ensures { λ r. ⌜ r ≡ indexOf scale number ⌝ }
 {
-    let number = sib / 8 % 8;
     let register = if number == 4 {
         None
     } else {
@@ -83,7 +83,7 @@ fn index(sib: u8) -> Index
     };
     Index {
         register,
-        scale: Scale::numbered(sib / 64),
+        scale: Scale::numbered(scale),
     }
 }
 
@@ -99,7 +99,7 @@ fn address<C: Code>(code: &C, at: usize, mode: u8, rm: u8) -> (Address, usize)
         (
             Address {
                 base: base(mode, number),
-                index: Some(index(sib)),
+                index: Some(index(sib / 64, sib / 8 % 8)),
                 displacement,
             },
             end,
@@ -188,8 +188,8 @@ fn read<C: Code>(code: &C, at: usize) -> Option<(Instruction, usize)>
     formed(code, at + 1, form, number)
 }
 
-/// The instruction at an address and its length; none where no form matches, or the form runs past the end.
-pub fn decode<C: Code>(code: &C, at: u32) -> Option<Decoded>
+// The instruction at a place, if it ends inside the bytes.
+fn bounded<C: Code>(code: &C, at: u32) -> Option<Decoded>
     ensures { λ r. ⌜ r ≡ decodedAt (bytes (now (code .entry))) at ⌝ }
 {
     let start = at as usize;
@@ -202,4 +202,13 @@ pub fn decode<C: Code>(code: &C, at: u32) -> Option<Decoded>
         instruction,
         length,
     })
+}
+
+/// The instruction at an address and its length; none where no form matches, or the form runs past the end.
+pub fn decode<C: Code>(code: &C, at: u32) -> Option<Decoded>
+    ensures value { λ r. ⌜ r ≡ decodedAt (bytes (now (code .entry))) at ⌝ }
+    ensures every { λ r. ⌜ EveryEncoding (bytes (now (code .entry))) at r ⌝ }
+    ensures only { λ r. ⌜ OnlyEncodings (bytes (now (code .entry))) at r ⌝ }
+{
+    bounded(code, at)
 }

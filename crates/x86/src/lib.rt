@@ -4,6 +4,7 @@ pub mod code;
 pub mod decoding;
 pub mod forms;
 pub mod instructions;
+pub mod laws;
 pub mod operands;
 pub mod pairs;
 pub mod registers;

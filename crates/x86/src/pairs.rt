@@ -1,6 +1,7 @@
 //! The pair: five bytes that mask a register other than ESP with E0 and then jump or call through it.
 ghost use mathlib.Core.Path.{_≡_};
 ghost use Prim.Native.Nat.{_+_, _<_, _^_};
+ghost use Rattle.x86.specs.Laws.{EveryPair, OnlyPairs};
 ghost use Rattle.x86.specs.Pairs.{masks, transferAt, pairAt};
 use crate::code::Code;
 use crate::registers::Register;
@@ -52,8 +53,8 @@ fn transferred(number: u8, byte: u8) -> Option<Pair>
     }
 }
 
-/// The pair at an address; none where the bytes there are no pair, or run past the end.
-pub fn recognise<C: Code>(code: &C, at: u32) -> Option<Pair>
+// The pair at a place, if it ends inside the bytes.
+fn bounded<C: Code>(code: &C, at: u32) -> Option<Pair>
     ensures { λ r. ⌜ r ≡ pairAt (bytes (now (code .entry))) at ⌝ }
 {
     let start = at as usize;
@@ -61,4 +62,13 @@ pub fn recognise<C: Code>(code: &C, at: u32) -> Option<Pair>
         return None;
     }
     transferred(code.byte(start + 1) - 0xe0, code.byte(start + 4))
+}
+
+/// The pair at an address; none where the bytes there are no pair, or run past the end.
+pub fn recognise<C: Code>(code: &C, at: u32) -> Option<Pair>
+    ensures value { λ r. ⌜ r ≡ pairAt (bytes (now (code .entry))) at ⌝ }
+    ensures every { λ r. ⌜ EveryPair (bytes (now (code .entry))) at r ⌝ }
+    ensures only { λ r. ⌜ OnlyPairs (bytes (now (code .entry))) at r ⌝ }
+{
+    bounded(code, at)
 }
