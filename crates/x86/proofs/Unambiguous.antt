@@ -12,6 +12,7 @@ use Rattle.x86.specs.declared.operands.Address.{Address}
 use Rattle.x86.specs.declared.operands.RegisterOrMemory.{RegisterOrMemory}
 use Rattle.x86.specs.declared.operands.RegisterOrMemory.the-variants.{Register}
 use Rattle.x86.specs.declared.instructions.Instruction.{Instruction}
+use Rattle.x86.specs.declared.instructions.Instruction.the-variants.{Straight, Loose}
 use Rattle.x86.specs.declared.instructions.Decoded.{Decoded}
 use Rattle.x86.specs.declared.pairs.Transfer.{Transfer}
 use Rattle.x86.specs.declared.pairs.Transfer.the-variants.{Jump, Call}
@@ -23,9 +24,10 @@ use Rattle.x86.specs.declared.forms.Form.the-variants.{WithImmediate, WithOper
 use Rattle.x86.specs.Numbers.{registerOf, widthBytes}
 use Rattle.x86.specs.Instructions.{classOf}
 use Rattle.x86.specs.Rows.{Row}
+use Rattle.x86.specs.Pairs.{maskOf, leaveOf}
 use Rattle.x86.specs.Decoded.{decodedAt, instructionOf}
 use Rattle.x86.specs.Grammar.{Among, first, later, Opens, one-byte, two-byte, Spells, byte, long, Displaces, not-at-all, by, fields, Addresses, based, scaled, Names, register, memory, Follows, nothing, immediate, operand, both, Encodes, encoding}
-use Rattle.x86.specs.Laws.{Unambiguous, ClassesApart, Short, Halves, mask, leave, masking, leaving}
+use Rattle.x86.specs.Laws.{Unambiguous, ClassesApart, Short, Halves, mask, leave}
 use Rattle.x86.proofs.Complete.{spelled-length}
 use Rattle.x86.proofs.Meets.{every-encoding}
 
@@ -88,22 +90,22 @@ short i _ (encoding f n _ _ e (two-byte _ _ (later none) h) s) = elim none [ ]
 row-FF : Opens (WithOperand Through) 0 (0xFF ∷ [])
 row-FF = one-byte _ 0 (later (later (later (later (later (later (later (later (later (later (later (later (later (later (later (later (later (later (later (later (later (later (later (later (later (later (later (later (later (later (later (later (later (first)))))))))))))))))))))))))))))))))) (omega arith)
 
-masks-with : (n : ℕ) → n < 8 → Encodes (masking (registerOf n)) (mask n)
+masks-with : (n : ℕ) → n < 8 → Encodes (Straight (maskOf (registerOf n))) (mask n)
 masks-with n h =
-    subst (λ (b : ℕ). Encodes (masking (registerOf n)) (0x83 ∷ (b ∷ (0xE0 ∷ [])))) (omega arith)
-    (encoding (WithBoth SignExtended) 0 (masking (registerOf n)) (0x83 ∷ []) (fields 3 4 n ∷ (0xE0 ∷ []))
+    subst (λ (b : ℕ). Encodes (Straight (maskOf (registerOf n))) (0x83 ∷ (b ∷ (0xE0 ∷ [])))) (omega arith)
+    (encoding (WithBoth SignExtended) 0 (Straight (maskOf (registerOf n))) (0x83 ∷ []) (fields 3 4 n ∷ (0xE0 ∷ []))
     (one-byte _ 0 (later (later (later (later (later (later (later (later (later (later (later (later (later first))))))))))))) (omega arith))
-    (both SignExtended 0 4 (Register n) (fields 3 4 n ∷ []) 0xE0 (0xE0 ∷ []) (masking (registerOf n)) (register 4 n (omega arith) h) (byte 0xE0 (omega arith)) refl))
+    (both SignExtended 0 4 (Register n) (fields 3 4 n ∷ []) 0xE0 (0xE0 ∷ []) (Straight (maskOf (registerOf n))) (register 4 n (omega arith) h) (byte 0xE0 (omega arith)) refl))
 
-leaves : (n : ℕ) (t : Transfer) → n < 8 → Encodes (leaving t (registerOf n)) (leave t n)
+leaves : (n : ℕ) (t : Transfer) → n < 8 → Encodes (Loose (leaveOf t (registerOf n))) (leave t n)
 leaves n Jump h =
-    subst (λ (b : ℕ). Encodes (leaving Jump (registerOf n)) (0xFF ∷ (b ∷ []))) (omega arith)
-    (encoding (WithOperand Through) 0 (leaving Jump (registerOf n)) (0xFF ∷ []) (fields 3 4 n ∷ []) row-FF
-    (operand Through 0 4 (Register n) (fields 3 4 n ∷ []) (leaving Jump (registerOf n)) (register 4 n (omega arith) h) refl))
+    subst (λ (b : ℕ). Encodes (Loose (leaveOf Jump (registerOf n))) (0xFF ∷ (b ∷ []))) (omega arith)
+    (encoding (WithOperand Through) 0 (Loose (leaveOf Jump (registerOf n))) (0xFF ∷ []) (fields 3 4 n ∷ []) row-FF
+    (operand Through 0 4 (Register n) (fields 3 4 n ∷ []) (Loose (leaveOf Jump (registerOf n))) (register 4 n (omega arith) h) refl))
 leaves n Call h =
-    subst (λ (b : ℕ). Encodes (leaving Call (registerOf n)) (0xFF ∷ (b ∷ []))) (omega arith)
-    (encoding (WithOperand Through) 0 (leaving Call (registerOf n)) (0xFF ∷ []) (fields 3 2 n ∷ []) row-FF
-    (operand Through 0 2 (Register n) (fields 3 2 n ∷ []) (leaving Call (registerOf n)) (register 2 n (omega arith) h) refl))
+    subst (λ (b : ℕ). Encodes (Loose (leaveOf Call (registerOf n))) (0xFF ∷ (b ∷ []))) (omega arith)
+    (encoding (WithOperand Through) 0 (Loose (leaveOf Call (registerOf n))) (0xFF ∷ []) (fields 3 2 n ∷ []) row-FF
+    (operand Through 0 2 (Register n) (fields 3 2 n ∷ []) (Loose (leaveOf Call (registerOf n))) (register 2 n (omega arith) h) refl))
 
 pub halves : Halves
 halves n t h = (masks-with n h, leaves n t h)

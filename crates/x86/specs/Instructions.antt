@@ -22,10 +22,14 @@ displacementOf (Jump d) = d
 displacementOf (Call d) = d
 displacementOf (Conditional k d) = d
 
--- the address after the form plus the displacement, modulo 2^32
+-- the end of a direct form plus its displacement, modulo 2^32
+abbrev pub targetFrom : ℕ → DirectForm → ℕ
+targetFrom end d = (end + displacementOf d) % 2 ^ 32
+
+-- where an instruction of n bytes at p goes to, if it is direct
 abbrev pub target : ℕ → ℕ → Instruction → Option ℕ
 target n p (Straight i) = None
-target n p (Direct i) = Some ((p + n + displacementOf i) % 2 ^ 32)
+target n p (Direct i) = Some (targetFrom ((p + n) % 2 ^ 32) i)
 target n p (Loose i) = None
 
 abbrev pub targetOf : Decoded → ℕ → Option ℕ

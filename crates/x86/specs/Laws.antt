@@ -5,13 +5,6 @@ use mathlib.Core.List.{List, [], _∷_, _++_}
 use lib.ListN.{length, take, drop}
 use Rattle.std.specs.declared.option.Option.{Option}
 use Rattle.std.specs.declared.option.Option.the-variants.{Some, None}
-use Rattle.x86.specs.declared.registers.Register.{Register}
-use Rattle.x86.specs.declared.registers.Operation.the-variants.{And}
-use Rattle.x86.specs.declared.registers.Width.the-variants.{Long}
-use Rattle.x86.specs.declared.operands.Operand.the-variants as place
-use Rattle.x86.specs.declared.operands.Source.the-variants as source
-use Rattle.x86.specs.declared.instructions.Straight.the-variants.{Arithmetic}
-use Rattle.x86.specs.declared.instructions.Loose.the-variants as loose
 use Rattle.x86.specs.declared.instructions.Instruction.{Instruction}
 use Rattle.x86.specs.declared.instructions.Instruction.the-variants.{Straight, Loose}
 use Rattle.x86.specs.declared.instructions.Decoded.{Decoded}
@@ -21,7 +14,7 @@ use Rattle.x86.specs.declared.pairs.Pair.{Pair}
 use Rattle.x86.specs.Numbers.{registerOf}
 use Rattle.x86.specs.Decoded.{instructionOf}
 use Rattle.x86.specs.Instructions.{classOf}
-use Rattle.x86.specs.Pairs.{pairOf}
+use Rattle.x86.specs.Pairs.{pairOf, maskOf, leaveOf}
 use Rattle.x86.specs.Grammar.{Encodes}
 use Rattle.x86.specs.Octets.{Octets}
 
@@ -73,15 +66,7 @@ EveryPair bs p answer = (x : Pair) (e after : List ℕ) → Pairs x e → drop p
 abbrev pub OnlyPairs : List ℕ → ℕ → Option Pair → Type 0
 OnlyPairs bs p answer = (x : Pair) → answer ≡ Some x → Pairs x (take 5 (drop p bs))
 
--- AND of a register with the sign-extended byte E0
-abbrev pub masking : Register → Instruction
-masking r = Straight (Arithmetic And Long (place.Register r) (source.Immediate 0xFFFFFFE0))
-
-abbrev pub leaving : Transfer → Register → Instruction
-leaving Jump r = Loose (loose.Jump r)
-leaving Call r = Loose (loose.Call r)
-
 -- the halves of a pair are the masking AND and the loose jump or call, through one register
 abbrev pub Halves : Type 0
 Halves =
-    (n : ℕ) (t : Transfer) → n < 8 → Encodes (masking (registerOf n)) (mask n) × Encodes (leaving t (registerOf n)) (leave t n)
+    (n : ℕ) (t : Transfer) → n < 8 → Encodes (Straight (maskOf (registerOf n))) (mask n) × Encodes (Loose (leaveOf t (registerOf n))) (leave t n)

@@ -7,6 +7,14 @@ use lib.ListN.{length, getD}
 use Rattle.std.specs.declared.option.Option.{Option}
 use Rattle.std.specs.declared.option.Option.the-variants.{Some, None}
 use Rattle.x86.specs.declared.registers.Register.{Register}
+use Rattle.x86.specs.declared.registers.Operation.the-variants.{And}
+use Rattle.x86.specs.declared.registers.Width.the-variants.{Long}
+use Rattle.x86.specs.declared.operands.Operand.the-variants as place
+use Rattle.x86.specs.declared.operands.Source.the-variants as source
+use Rattle.x86.specs.declared.instructions.Straight.{Straight}
+use Rattle.x86.specs.declared.instructions.Straight.the-variants.{Arithmetic}
+use Rattle.x86.specs.declared.instructions.Loose.{Loose}
+use Rattle.x86.specs.declared.instructions.Loose.the-variants as loose
 use Rattle.x86.specs.declared.pairs.Transfer.{Transfer}
 use Rattle.x86.specs.declared.pairs.Transfer.the-variants.{Jump, Call}
 use Rattle.x86.specs.declared.pairs.Pair.{Pair}
@@ -29,3 +37,12 @@ transferAt n b =
 -- the pair at a place of the bytes
 abbrev pub pairAt : List ℕ → ℕ → Option Pair
 pairAt bs p = cond (leb (p + 5) (length bs) && masks bs p) (transferAt (getD bs (p + 1) 0 - 0xE0) (getD bs (p + 4) 0)) None
+
+-- the first half: AND of the register with the byte E0, extended by its sign
+abbrev pub maskOf : Register → Straight
+maskOf r = Arithmetic And Long (place.Register r) (source.Immediate 0xFFFFFFE0)
+
+-- the second half: a jump or a call through the register
+abbrev pub leaveOf : Transfer → Register → Loose
+leaveOf Jump r = loose.Jump r
+leaveOf Call r = loose.Call r

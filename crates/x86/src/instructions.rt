@@ -1,6 +1,6 @@
 //! Instructions, in three classes.
 ghost use mathlib.Core.Path.{_≡_};
-ghost use Rattle.x86.specs.Instructions.{classOf, displacementOf, targetOf};
+ghost use Rattle.x86.specs.Instructions.{classOf, displacementOf, targetFrom, targetOf};
 use crate::operands::Address;
 use crate::operands::Operand;
 use crate::operands::Source;
@@ -88,20 +88,22 @@ impl Direct {
             Self::Conditional(_, displacement) => displacement,
         }
     }
+
+    /// Where it goes to from its end, modulo 2^32.
+    pub fn target(self, end: u32) -> u32
+        ensures { λ r. ⌜ r ≡ targetFrom end self ⌝ }
+    {
+        end.wrapping_add(self.displacement())
+    }
 }
 
 impl Decoded {
-    /// Where a direct form that stands at `at` goes to, modulo 2^32; none for any other instruction.
+    /// Where a direct form that stands at `at` goes to; none for any other instruction.
     pub fn target(self, at: u32) -> Option<u32>
         ensures { λ r. ⌜ r ≡ targetOf self at ⌝ }
     {
         match self.instruction {
-            Instruction::Direct(direct) => {
-                Some(
-                    at.wrapping_add(self.length)
-                        .wrapping_add(direct.displacement()),
-                )
-            }
+            Instruction::Direct(direct) => Some(direct.target(at.wrapping_add(self.length))),
             _ => None,
         }
     }

@@ -2,9 +2,15 @@
 ghost use mathlib.Core.Path.{_≡_};
 ghost use Prim.Native.Nat.{_+_, _<_, _^_};
 ghost use Rattle.x86.specs.Laws.{EveryPair, OnlyPairs};
-ghost use Rattle.x86.specs.Pairs.{masks, transferAt, pairAt};
+ghost use Rattle.x86.specs.Pairs.{masks, transferAt, pairAt, maskOf, leaveOf};
 use crate::code::Code;
+use crate::instructions::Loose;
+use crate::instructions::Straight;
+use crate::operands::Operand;
+use crate::operands::Source;
+use crate::registers::Operation;
 use crate::registers::Register;
+use crate::registers::Width;
 
 /// How a pair leaves.
 #[derive(Clone, Copy)]
@@ -17,6 +23,30 @@ pub enum Transfer {
 pub struct Pair {
     pub register: Register,
     pub transfer: Transfer,
+}
+
+impl Pair {
+    /// The first half: AND of the register with the byte E0, extended by its sign.
+    pub fn mask(self) -> Straight
+        ensures { λ r. ⌜ r ≡ maskOf (self .register) ⌝ }
+    {
+        Straight::Arithmetic(
+            Operation::And,
+            Width::Long,
+            Operand::Register(self.register),
+            Source::Immediate(0xffff_ffe0),
+        )
+    }
+
+    /// The second half: a jump or a call through the register.
+    pub fn leave(self) -> Loose
+        ensures { λ r. ⌜ r ≡ leaveOf (self .transfer) (self .register) ⌝ }
+    {
+        match self.transfer {
+            Transfer::Jump => Loose::Jump(self.register),
+            Transfer::Call => Loose::Call(self.register),
+        }
+    }
 }
 
 // 83, a byte that names a register other than ESP, E0, FF
