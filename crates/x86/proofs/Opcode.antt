@@ -2,7 +2,7 @@
 use mathlib.Core.Path.{_≡_, refl, sym, _∙_, subst}
 use mathlib.Core.Bool.{Bool, true, false, cond}
 use mathlib.Core.List.{List}
-use Prim.Native.Nat.{ℕ, _+_, _≤_}
+use Prim.Native.Nat.{ℕ, _+_, _<_, _≤_}
 use native.Mathlib.Omega.{arith}
 use lib.Dec.{eqb}
 use lib.ListN.{getD}
@@ -27,8 +27,8 @@ one-byte bs p b f n e k h =
     sym (subst (λ (b : ℕ). cond (eqb b 15) (rowAt bs (p + 2) (lookUp twoByteRows (getD bs (p + 1) 0))) (rowAt bs (p + 1) (lookUp oneByteRows b)) ≡ formAt bs (p + 1) f n) e
     (otherwise bs p (eqb b 15) (rowAt bs (p + 2) (lookUp twoByteRows (getD bs (p + 1) 0))) (lookUp oneByteRows b) f n (ne-eqb b 15 k) h))
 
--- what ends from q on, within n, ends from an earlier p on, within so much more
-pub ends-past : (o : Option (Instruction × ℕ)) (p q n m : ℕ) → p ≤ q → q + n ≤ p + m →
-    Cases o (Unit {0}) (λ x. (q ≤ x .1) × (x .1 ≤ q + n)) → Cases o (Unit {0}) (λ x. (p ≤ x .1) × (x .1 ≤ p + m))
+-- what ends from q on, within n, ends past an earlier p, within so much more
+pub ends-past : (o : Option (Instruction × ℕ)) (p q n m : ℕ) → p < q → q + n ≤ p + m →
+    Cases o (Unit {0}) (λ x. (q ≤ x .1) × (x .1 ≤ q + n)) → Cases o (Unit {0}) (λ x. (p < x .1) × (x .1 ≤ p + m))
 ends-past None p q n m h k e = tt
 ends-past (Some x) p q n m h k e = (omega arith, omega arith)

@@ -18,6 +18,10 @@ use Rattle.x86.specs.Pairs.{pairOf, maskOf, leaveOf}
 use Rattle.x86.specs.Grammar.{Encodes}
 use Rattle.x86.specs.Octets.{Octets}
 
+-- the n bytes from p on are some, and lie inside
+abbrev pub Inside : List ℕ → ℕ → ℕ → Type 0
+Inside bs p n = (0 < n) × (p + n ≤ length bs)
+
 -- an encoding that stands at p is answered with its instruction and its whole length, whatever bytes follow
 abbrev pub EveryEncoding : List ℕ → ℕ → Option Decoded → Type 0
 EveryEncoding bs p answer =

@@ -2,7 +2,7 @@
 ghost use mathlib.Core.Path.{_≡_};
 ghost use Prim.Native.Nat.{_+_, _*_, _<_, _≤_, _^_};
 ghost use Rattle.std.specs.Options.{Cases};
-ghost use Rattle.x86.specs.Laws.{EveryEncoding, OnlyEncodings};
+ghost use Rattle.x86.specs.Laws.{Inside, EveryEncoding, OnlyEncodings};
 ghost use Rattle.x86.specs.Decoded.{longAt, valueAt, displacementWidth, displacementAt, baseOf, indexOf, addressAt, modrmAt, formAt, rowAt, readAt, decodedAt};
 use crate::code::Code;
 use crate::forms::Form;
@@ -177,7 +177,7 @@ fn formed<C: Code>(code: &C, at: usize, form: Form, number: u8) -> Option<(Instr
 fn read<C: Code>(code: &C, at: usize) -> Option<(Instruction, usize)>
     requires { ⌜ at < 2 ^ 32 ⌝ }
     ensures value { λ r. ⌜ r ≡ readAt (bytes (now (code .entry))) at ⌝ }
-    ensures bound { λ r. ⌜ Cases r (Unit {0}) (λ x. (at ≤ x .1) × (x .1 ≤ at + 12)) ⌝ }
+    ensures bound { λ r. ⌜ Cases r (Unit {0}) (λ x. (at < x .1) × (x .1 ≤ at + 12)) ⌝ }
 {
     let opcode = code.byte(at);
     if opcode == 0x0f {
@@ -190,7 +190,8 @@ fn read<C: Code>(code: &C, at: usize) -> Option<(Instruction, usize)>
 
 // The instruction at a place, if it ends inside the bytes.
 fn bounded<C: Code>(code: &C, at: u32) -> Option<Decoded>
-    ensures { λ r. ⌜ r ≡ decodedAt (bytes (now (code .entry))) at ⌝ }
+    ensures value { λ r. ⌜ r ≡ decodedAt (bytes (now (code .entry))) at ⌝ }
+    ensures inside { λ r. ⌜ Cases r (Unit {0}) (λ d. Inside (bytes (now (code .entry))) at (d .length)) ⌝ }
 {
     let start = at as usize;
     let (instruction, end) = read(code, start)?;
@@ -207,6 +208,7 @@ fn bounded<C: Code>(code: &C, at: u32) -> Option<Decoded>
 /// The instruction at an address and its length; none where no form matches, or the form runs past the end.
 pub fn decode<C: Code>(code: &C, at: u32) -> Option<Decoded>
     ensures value { λ r. ⌜ r ≡ decodedAt (bytes (now (code .entry))) at ⌝ }
+    ensures inside { λ r. ⌜ Cases r (Unit {0}) (λ d. Inside (bytes (now (code .entry))) at (d .length)) ⌝ }
     ensures every { λ r. ⌜ EveryEncoding (bytes (now (code .entry))) at r ⌝ }
     ensures only { λ r. ⌜ OnlyEncodings (bytes (now (code .entry))) at r ⌝ }
 {

@@ -1,7 +1,8 @@
 //! The pair: five bytes that mask a register other than ESP with E0 and then jump or call through it.
 ghost use mathlib.Core.Path.{_≡_};
 ghost use Prim.Native.Nat.{_+_, _<_, _^_};
-ghost use Rattle.x86.specs.Laws.{EveryPair, OnlyPairs};
+ghost use Rattle.std.specs.Options.{Cases};
+ghost use Rattle.x86.specs.Laws.{Inside, EveryPair, OnlyPairs};
 ghost use Rattle.x86.specs.Pairs.{masks, transferAt, pairAt, maskOf, leaveOf};
 use crate::code::Code;
 use crate::instructions::Loose;
@@ -85,7 +86,8 @@ fn transferred(number: u8, byte: u8) -> Option<Pair>
 
 // The pair at a place, if it ends inside the bytes.
 fn bounded<C: Code>(code: &C, at: u32) -> Option<Pair>
-    ensures { λ r. ⌜ r ≡ pairAt (bytes (now (code .entry))) at ⌝ }
+    ensures value { λ r. ⌜ r ≡ pairAt (bytes (now (code .entry))) at ⌝ }
+    ensures inside { λ r. ⌜ Cases r (Unit {0}) (λ _. Inside (bytes (now (code .entry))) at 5) ⌝ }
 {
     let start = at as usize;
     if start + 5 > code.len() || !masked(code, start) {
@@ -97,6 +99,7 @@ fn bounded<C: Code>(code: &C, at: u32) -> Option<Pair>
 /// The pair at an address; none where the bytes there are no pair, or run past the end.
 pub fn recognise<C: Code>(code: &C, at: u32) -> Option<Pair>
     ensures value { λ r. ⌜ r ≡ pairAt (bytes (now (code .entry))) at ⌝ }
+    ensures inside { λ r. ⌜ Cases r (Unit {0}) (λ _. Inside (bytes (now (code .entry))) at 5) ⌝ }
     ensures every { λ r. ⌜ EveryPair (bytes (now (code .entry))) at r ⌝ }
     ensures only { λ r. ⌜ OnlyPairs (bytes (now (code .entry))) at r ⌝ }
 {

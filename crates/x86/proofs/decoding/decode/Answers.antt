@@ -9,7 +9,8 @@ use Rattle.x86.proofs.decoding.decode.Needs as need
 pub returns : need.returns
 returns g c =
     record {
-      value = c .bounded .ensures;
-      every = subst (λ (r : Option Decoded). EveryEncoding (g .C·Code .bytes (c .args .code .now)) (c .args .at) r) (sym (c .bounded .ensures)) (every-encoding (g .C·Code .bytes (c .args .code .now)) (c .args .at));
-      only = subst (λ (r : Option Decoded). OnlyEncodings (g .C·Code .bytes (c .args .code .now)) (c .args .at) r) (sym (c .bounded .ensures)) (only-encodings (g .C·Code .bytes (c .args .code .now)) (c .args .at));
+      value = c .bounded .ensures .value;
+      inside = c .bounded .ensures .inside;
+      every = subst (λ (r : Option Decoded). EveryEncoding (g .C·Code .bytes (c .args .code .now)) (c .args .at) r) (sym (c .bounded .ensures .value)) (every-encoding (g .C·Code .bytes (c .args .code .now)) (c .args .at));
+      only = subst (λ (r : Option Decoded). OnlyEncodings (g .C·Code .bytes (c .args .code .now)) (c .args .at) r) (sym (c .bounded .ensures .value)) (only-encodings (g .C·Code .bytes (c .args .code .now)) (c .args .at));
     }

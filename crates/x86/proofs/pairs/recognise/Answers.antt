@@ -9,7 +9,8 @@ use Rattle.x86.proofs.pairs.recognise.Needs as need
 pub returns : need.returns
 returns g c =
     record {
-      value = c .bounded .ensures;
-      every = subst (λ (r : Option Pair). EveryPair (g .C·Code .bytes (c .args .code .now)) (c .args .at) r) (sym (c .bounded .ensures)) (every-pair (g .C·Code .bytes (c .args .code .now)) (c .args .at));
-      only = subst (λ (r : Option Pair). OnlyPairs (g .C·Code .bytes (c .args .code .now)) (c .args .at) r) (sym (c .bounded .ensures)) (only-pairs (g .C·Code .bytes (c .args .code .now)) (c .args .at));
+      value = c .bounded .ensures .value;
+      inside = c .bounded .ensures .inside;
+      every = subst (λ (r : Option Pair). EveryPair (g .C·Code .bytes (c .args .code .now)) (c .args .at) r) (sym (c .bounded .ensures .value)) (every-pair (g .C·Code .bytes (c .args .code .now)) (c .args .at));
+      only = subst (λ (r : Option Pair). OnlyPairs (g .C·Code .bytes (c .args .code .now)) (c .args .at) r) (sym (c .bounded .ensures .value)) (only-pairs (g .C·Code .bytes (c .args .code .now)) (c .args .at));
     }
