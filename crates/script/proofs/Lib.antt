@@ -1,0 +1,9 @@
+pub mod Written
+pub mod Copies
+pub mod Gathers
+pub mod Numerals
+pub mod Pairs
+pub mod Rereading
+pub mod Spellings
+pub mod Splits
+pub mod Texts

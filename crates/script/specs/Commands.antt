@@ -1,0 +1,63 @@
+-- The command that a line asks for.
+use Prim.Native.Nat.{ℕ}
+use mathlib.Core.Bool.{cond}
+use mathlib.Core.List.{List, [], _∷_}
+use lib.Chars.{codes}
+use lib.ListN.{take, drop}
+use Rattle.std.specs.Of.Vec.{vec-items}
+use Rattle.std.specs.shelf.Text.{sameBytes}
+use Rattle.std.specs.declared.option.Option.{Option}
+use Rattle.std.specs.declared.option.Option.the-variants.{Some, None}
+use Rattle.std.specs.declared.result.Result.{Result}
+use Rattle.std.specs.declared.result.Result.the-variants.{Ok, Err}
+use Rattle.script.specs.declared.commands.Command.{Command}
+use Rattle.script.specs.declared.commands.Command.the-variants as command
+use Rattle.script.specs.declared.problems.Problem.{Problem}
+use Rattle.script.specs.declared.problems.Problem.the-variants.{UnknownCommand, MissingPath, TooManyWords}
+use Rattle.script.specs.Groups.{bytesOf}
+use Rattle.script.specs.Numbers.{andThen}
+use Rattle.script.specs.Parts.{contentOf}
+use Rattle.script.specs.Words.{restOf, firstWord, afterWord}
+
+-- a command, with its bytes and its path as lists
+pub data Request : Type 0 where
+  nothing : Request
+  bytes : List ℕ → Request
+  file : List ℕ → Request
+  listing : Request
+
+-- what a command stands for
+abbrev pub requestOf : Command → Request
+requestOf command.Nothing = nothing
+requestOf (command.Module v) = bytes (vec-items v)
+requestOf (command.ModuleFile path) = file (path .now)
+requestOf command.List = listing
+
+-- a path has at least one character
+abbrev pub pathOf : List ℕ → Result Request Problem
+pathOf [] = Err MissingPath
+pathOf (c ∷ cs) = Ok (file (c ∷ cs))
+
+-- after the word module: an @ and a path, or bytes
+abbrev pub moduleOf : List ℕ → Result Request Problem
+moduleOf rest = cond (sameBytes (take 1 rest) (codes "@")) (pathOf (drop 1 rest)) (andThen (bytesOf rest) (λ bs. Ok (bytes bs)))
+
+-- a command that takes nothing more
+abbrev pub aloneOf : Request → List ℕ → Result Request Problem
+aloneOf request [] = Ok request
+aloneOf request (c ∷ cs) = Err TooManyWords
+
+-- a command by its name and what stands after it
+abbrev pub namedOf : List ℕ → List ℕ → Result Request Problem
+namedOf name rest =
+    cond (sameBytes name (codes "module")) (moduleOf rest)
+    (cond (sameBytes name (codes "list")) (aloneOf listing rest) (Err UnknownCommand))
+
+-- a first word is the name of a command
+abbrev pub fromWord : Option (List ℕ) → List ℕ → Result Request Problem
+fromWord None rest = Ok nothing
+fromWord (Some name) rest = namedOf name rest
+
+-- the command that a line asks for
+abbrev pub commandOf : List ℕ → Result Request Problem
+commandOf line = fromWord (firstWord (contentOf line)) (restOf (afterWord (contentOf line)))

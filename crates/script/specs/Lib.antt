@@ -1,0 +1,9 @@
+pub mod Answered
+pub mod Commands
+pub mod Digits
+pub mod Explained
+pub mod Groups
+pub mod Numbers
+pub mod Parts
+pub mod Spelled
+pub mod Words

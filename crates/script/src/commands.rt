@@ -1,0 +1,83 @@
+//! A line of a script as a command. A new command is a variant, a name in `named` and a line of each one's definition.
+ghost use mathlib.Core.Path.{_≡_};
+ghost use Rattle.std.specs.shelf.Text.{sameBytes};
+ghost use Rattle.script.specs.Groups.{Answers};
+ghost use Rattle.script.specs.Commands.{requestOf, aloneOf, pathOf, moduleOf, namedOf, commandOf};
+use crate::groups::bytes;
+use crate::parts::content;
+use crate::problems::Problem;
+use crate::words::Words;
+use std::alloc::Global;
+
+/// What a line asks for.
+#[derive(Drop)]
+pub enum Command<'a> {
+    /// The line is blank, or a comment.
+    Nothing,
+    /// A module with these bytes.
+    Module(Vec<u8>),
+    /// A module whose bytes are in the file with this path.
+    ModuleFile(&'a [u8]),
+    /// The elements of the module.
+    List,
+}
+
+// The path of a file, which is all that is left of the line.
+fn file(path: &[u8]) -> Result<Command<'_>, Problem>
+    ensures { λ r. ⌜ Answers requestOf (pathOf (now (path .entry))) r ⌝ }
+{
+    if path.is_empty() {
+        Err(Problem::MissingPath)
+    } else {
+        Ok(Command::ModuleFile(path))
+    }
+}
+
+fn module(heap: Global, rest: &[u8]) -> Result<Command<'_>, Problem>
+    ensures { λ r. ⌜ Answers requestOf (moduleOf (now (rest .entry))) r ⌝ }
+{
+    match rest.strip_prefix(b"@") {
+        Some(path) => file(path),
+        None => Ok(Command::Module(bytes(heap, rest)?)),
+    }
+}
+
+// A command that takes nothing more.
+fn alone<'a>(command: Command<'a>, rest: &[u8]) -> Result<Command<'a>, Problem>
+    ensures { λ r. ⌜ Answers requestOf (aloneOf (requestOf (command .entry)) (now (rest .entry))) r ⌝ }
+{
+    if rest.is_empty() {
+        Ok(command)
+    } else {
+        Err(Problem::TooManyWords)
+    }
+}
+
+fn is(word: &[u8], name: &[u8]) -> bool
+    ensures { λ r. ⌜ r ≡ sameBytes (now (word .entry)) (now (name .entry)) ⌝ }
+{
+    word == name
+}
+
+fn named<'a>(heap: Global, name: &[u8], rest: &'a [u8]) -> Result<Command<'a>, Problem>
+    ensures { λ r. ⌜ Answers requestOf (namedOf (now (name .entry)) (now (rest .entry))) r ⌝ }
+{
+    if is(name, b"module") {
+        module(heap, rest)
+    } else if is(name, b"list") {
+        alone(Command::List, rest)
+    } else {
+        Err(Problem::UnknownCommand)
+    }
+}
+
+/// The command that a line asks for.
+pub fn parse(heap: Global, line: &[u8]) -> Result<Command<'_>, Problem>
+    ensures { λ r. ⌜ Answers requestOf (commandOf (now (line .entry))) r ⌝ }
+{
+    let mut words = Words::new(content(line));
+    match words.next() {
+        Some(name) => named(heap, name, words.rest()),
+        None => Ok(Command::Nothing),
+    }
+}
