@@ -1,3 +1,4 @@
 pub mod Elements
 pub mod Lines
 pub mod Endings
+pub mod Listings

@@ -2,3 +2,4 @@
 pub mod elements;
 pub mod endings;
 pub mod lines;
+pub mod listings;

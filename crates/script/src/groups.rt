@@ -15,7 +15,7 @@ use crate::words::Words;
 use std::alloc::Global;
 
 /// The most bytes that a module may have.
-const LIMIT: usize = 1_048_576;
+pub const LIMIT: usize = 1_048_576;
 
 fn byte(high: u8, low: u8) -> Result<u8, Problem>
     ensures { λ r. ⌜ r ≡ byteOf high low ⌝ }

@@ -9,4 +9,5 @@ returns c =
     record {
       place = refl;
       element = sym (c .in-Continue-element .ensures tt .value);
-      bytes = ap (λ (n : ℕ). take n (drop (c .args .at) (c .args .image .now))) (omega (arith, c .length .ensures)) }
+      bytes = ap (λ (n : ℕ). take n (drop (c .args .at) (c .args .image .now))) (omega (arith, c .length .ensures));
+    }
