@@ -5,7 +5,7 @@ use Prim.Native.Nat.{ℕ}
 use Rattle.std.specs.declared.result.Result.the-variants.{Ok, Err}
 use Rattle.script.specs.declared.problems.Problem.{Problem}
 use Rattle.script.specs.Groups.{groupOf, groupsOf}
-use Rattle.script.proofs.Numerals.{goes-on, breaks-off}
+use Rattle.script.proofs.Outcomes.{breaks-off, goes-on}
 
 pub gather-turn : (done more word : List ℕ) (words rest : List (List ℕ)) → words ≡ word ∷ rest → groupOf done word ≡ Ok more → groupsOf more rest ≡ groupsOf done words
 gather-turn done more word words rest e g = sym (ap (groupsOf done) e ∙ goes-on (groupOf done word) _ more g)

@@ -1,20 +1,15 @@
 -- One turn of reading digits, and its end.
-use mathlib.Core.Path.{_≡_, refl, sym, ap, _∙_}
-use mathlib.Core.List.{List, _∷_}
+use mathlib.Core.Path.{_≡_, sym, _∙_}
+use mathlib.Core.List.{List}
 use Prim.Native.Nat.{ℕ, _+_, _<_}
 use lib.ListN.{length, getD, drop}
 use Rattle.std.proofs.shelf.Lists.{at-drop-more}
-use Rattle.std.specs.declared.result.Result.{Result}
 use Rattle.std.specs.declared.result.Result.the-variants.{Ok, Err}
 use Rattle.script.specs.declared.problems.Problem.{Problem}
 use Rattle.script.specs.Digits.{digitOf}
-use Rattle.script.specs.Numbers.{andThen, grownBy, valueOf}
-
-pub goes-on : {X Y : Type 0} (r : Result X Problem) (f : X → Result Y Problem) (x : X) → r ≡ Ok x → andThen r f ≡ f x
-goes-on {X} r f x e = ap (λ (r : Result X Problem). andThen r f) e
-
-pub breaks-off : {X Y : Type 0} (r : Result X Problem) (f : X → Result Y Problem) (p : Problem) → r ≡ Err p → andThen r f ≡ Err p
-breaks-off {X} r f p e = ap (λ (r : Result X Problem). andThen r f) e
+use Rattle.script.specs.Numbers.{grownBy, valueOf}
+use Rattle.script.specs.Outcomes.{andThen}
+use Rattle.script.proofs.Outcomes.{goes-on, breaks-off}
 
 first : (base v i : ℕ) (cs : List ℕ) → i < length cs →
     valueOf base v (drop i cs) ≡ andThen (grownBy base v (digitOf (getD cs i 0))) (λ m. valueOf base m (drop (i + 1) cs))

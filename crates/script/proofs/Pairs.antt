@@ -1,5 +1,5 @@
 -- One turn of reading pairs of digits, and its ends.
-use mathlib.Core.Path.{_≡_, refl, sym, ap, _∙_}
+use mathlib.Core.Path.{_≡_, sym, ap, _∙_}
 use mathlib.Core.List.{List, [], _∷_, _++_}
 use Prim.Native.Nat.{ℕ}
 use lib.ListN.{length}
@@ -7,7 +7,7 @@ use Rattle.std.proofs.shelf.Lists.{nil-from-length}
 use Rattle.std.specs.declared.result.Result.the-variants.{Ok, Err}
 use Rattle.script.specs.declared.problems.Problem.{Problem}
 use Rattle.script.specs.Groups.{byteOf, leftOver, pairsOf}
-use Rattle.script.proofs.Numerals.{goes-on, breaks-off}
+use Rattle.script.proofs.Outcomes.{breaks-off, goes-on}
 
 -- a text that begins with two characters
 two : (rest after last : List ℕ) (h l : ℕ) → rest ≡ h ∷ after → after ≡ l ∷ last → rest ≡ h ∷ (l ∷ last)

@@ -1,26 +1,25 @@
 -- Bytes that are spelled as pairs of digits are read back.
 use mathlib.Core.Path.{_≡_, refl, sym, ap, subst, _∙_}
-use mathlib.Core.Bool.{Bool, true, false, not, cond}
+use mathlib.Core.Bool.{Bool, true}
 use mathlib.Core.List.{List, [], _∷_, _++_}
 use Prim.Native.Nat.{ℕ, _+_, _*_, _/_, _%_, _<_, _≤_}
 use native.Mathlib.Omega.{arith}
 use lib.ListN.{length, take, drop}
 use lib.Seq.{take-length, drop-length, append-snoc}
 use Rattle.std.specs.shelf.Lists.{All, leading}
-use Rattle.std.specs.declared.option.Option.the-variants.{Some, None}
 use Rattle.std.specs.declared.result.Result.{Result}
-use Rattle.std.specs.declared.result.Result.the-variants.{Ok, Err}
+use Rattle.std.specs.declared.result.Result.the-variants.{Ok}
 use Rattle.std.proofs.shelf.Lists.{append-nil}
 use Rattle.std.proofs.shelf.Tests.{cond-true, cond-false, not-true, le-leb, ne-eqb}
 use Rattle.std.proofs.shelf.Ways.{tells}
 use Rattle.script.specs.declared.problems.Problem.{Problem}
 use Rattle.script.specs.declared.parts.Part.the-variants.{Word, Until}
-use Rattle.script.specs.Digits.{digitOf}
 use Rattle.script.specs.Parts.{isBlank, among}
-use Rattle.script.specs.Words.{startsWord, led, wordsOf}
-use Rattle.script.specs.Groups.{byteFrom, byteOf, pairsOf, repeatedOf, countOf, digitCount, groupOf, groupsOf, bytesOf, Answers}
+use Rattle.script.specs.Words.{led, wordsOf}
+use Rattle.script.specs.Groups.{byteOf, pairsOf, repeatedOf, countOf, digitCount, groupOf, groupsOf, bytesOf}
+use Rattle.script.specs.Outcomes.{Answers}
 use Rattle.script.specs.Spelled.{character, spelling, ReadsBytes}
-use Rattle.script.proofs.Numerals.{goes-on}
+use Rattle.script.proofs.Outcomes.{goes-on}
 use Rattle.script.proofs.Spellings.{digit-character}
 
 leading-all : (p : ℕ → Bool) (xs : List ℕ) → All (λ c. p c ≡ true) xs → leading p xs ≡ length xs

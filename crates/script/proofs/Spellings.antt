@@ -1,29 +1,28 @@
 -- Digits that are written out are read back.
 use mathlib.Core.Path.{_≡_, refl, sym, ap, _∙_}
-use mathlib.Core.Bool.{Bool, true, false, cond, _&&_}
+use mathlib.Core.Bool.{false}
 use mathlib.Core.List.{List, [], _∷_, _++_, map}
 use Prim.Native.Nat.{ℕ, _+_, _*_, _-_, _/_, _%_, _^_, _<_, _≤_}
 use native.Mathlib.Omega.{arith}
 use lib.Chars.{codes}
-use lib.Dec.{eqb, ltb}
-use lib.ListN.{length, take, drop}
+use lib.ListN.{length, take}
 use Rattle.std.specs.Written.{decimal}
 use Rattle.std.specs.shelf.Digits.{Under, number, numberAfter}
 use Rattle.std.specs.shelf.Text.{sameBytes}
-use Rattle.std.specs.declared.option.Option.the-variants.{Some, None}
+use Rattle.std.specs.declared.option.Option.the-variants.{Some}
 use Rattle.std.specs.declared.result.Result.{Result}
-use Rattle.std.specs.declared.result.Result.the-variants.{Ok, Err}
+use Rattle.std.specs.declared.result.Result.the-variants.{Ok}
 use Rattle.std.proofs.shelf.Digits.{numberAfter-ge, number-push}
 use Rattle.std.proofs.shelf.Decimals.{decimal-by-steps}
 use Rattle.std.proofs.shelf.Elements.{all-push}
 use Rattle.std.proofs.shelf.Lists.{map-push, length-map, length-push}
-use Rattle.std.proofs.shelf.Tests.{cond-true, cond-false, lt-ltb, ne-eqb, eqb-true}
+use Rattle.std.proofs.shelf.Tests.{cond-true, cond-false, lt-ltb, ne-eqb}
 use Rattle.std.proofs.shelf.Ways.{tells}
 use Rattle.script.specs.declared.problems.Problem.{Problem}
 use Rattle.script.specs.Digits.{digitOf}
-use Rattle.script.specs.Numbers.{grownBy, andThen, valueOf, numeralOf, numberOf}
+use Rattle.script.specs.Numbers.{grownBy, valueOf, numeralOf, numberOf}
 use Rattle.script.specs.Spelled.{character, ReadsDecimal, ReadsHexadecimal}
-use Rattle.script.proofs.Numerals.{goes-on}
+use Rattle.script.proofs.Outcomes.{goes-on}
 
 pub digit-character : (d : ℕ) → d < 16 → digitOf (character d) ≡ Some d
 digit-character d h = grind (arith, tells)

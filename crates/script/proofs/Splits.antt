@@ -3,7 +3,7 @@ use mathlib.Core.Path.{_≡_, refl, sym, ap, _∙_}
 use mathlib.Core.Bool.{Bool, true, false, not, cond}
 use mathlib.Core.List.{List, [], _∷_}
 use mathlib.Core.Logic.{_⊎_, inl, inr}
-use Prim.Native.Nat.{ℕ, suc, _+_}
+use Prim.Native.Nat.{ℕ, _+_}
 use native.Mathlib.Numerals.{one-add}
 use native.Mathlib.Omega.{arith}
 use lib.Dec.{eqb}
@@ -12,7 +12,7 @@ use Rattle.std.specs.shelf.Lists.{leading}
 use Rattle.std.specs.declared.option.Option.the-variants.{Some, None}
 use Rattle.std.specs.declared.option.Option.{Option}
 use Rattle.std.proofs.shelf.Tests.{cond-false, ne-eqb}
-use Rattle.script.specs.declared.parts.Part.the-variants.{Blanks, Word}
+use Rattle.script.specs.declared.parts.Part.the-variants.{Blanks}
 use Rattle.script.specs.Parts.{isBlank, among}
 use Rattle.script.specs.Words.{restOf, wordSize, firstWord, afterWord, startsWord, led, wordsOf, listed}
 

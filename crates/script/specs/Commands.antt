@@ -1,7 +1,8 @@
 -- The command that a line asks for.
+use mathlib.Core.Path.{_≡_}
 use Prim.Native.Nat.{ℕ}
-use mathlib.Core.Bool.{cond}
-use mathlib.Core.List.{List, [], _∷_}
+use mathlib.Core.Bool.{true, cond}
+use mathlib.Core.List.{List, [], _∷_, _++_}
 use lib.Chars.{codes}
 use lib.ListN.{take, drop}
 use Rattle.std.specs.Of.Vec.{vec-items}
@@ -15,8 +16,8 @@ use Rattle.script.specs.declared.commands.Command.the-variants as command
 use Rattle.script.specs.declared.problems.Problem.{Problem}
 use Rattle.script.specs.declared.problems.Problem.the-variants.{UnknownCommand, MissingPath, TooManyWords}
 use Rattle.script.specs.Groups.{bytesOf}
-use Rattle.script.specs.Numbers.{andThen}
-use Rattle.script.specs.Parts.{contentOf}
+use Rattle.script.specs.Outcomes.{andThen}
+use Rattle.script.specs.Parts.{isBlank, contentOf}
 use Rattle.script.specs.Words.{restOf, firstWord, afterWord}
 
 -- a command, with its bytes and its path as lists
@@ -61,3 +62,11 @@ fromWord (Some name) rest = namedOf name rest
 -- the command that a line asks for
 abbrev pub commandOf : List ℕ → Result Request Problem
 commandOf line = fromWord (firstWord (contentOf line)) (restOf (afterWord (contentOf line)))
+
+-- a comment at the end of a line changes nothing
+abbrev pub CommentUnread : List ℕ → Type 0
+CommentUnread line = (text : List ℕ) → commandOf (line ++ 35 ∷ text) ≡ commandOf line
+
+-- nor does a blank
+abbrev pub BlankUnread : List ℕ → Type 0
+BlankUnread line = (c : ℕ) → isBlank c ≡ true → commandOf (line ++ (c ∷ [])) ≡ commandOf line

@@ -1,5 +1,4 @@
 -- The bytes that groups of hexadecimal digits write.
-use mathlib.Core.Path.{_≡_}
 use Prim.Native.Nat.{ℕ, zero, suc, _+_, _*_}
 use mathlib.Core.Bool.{cond}
 use mathlib.Core.List.{List, [], _∷_, _++_}
@@ -10,18 +9,14 @@ use Rattle.std.specs.declared.option.Option.the-variants.{Some, None}
 use Rattle.std.specs.declared.result.Result.{Result}
 use Rattle.std.specs.declared.result.Result.the-variants.{Ok, Err}
 use Rattle.script.specs.declared.problems.Problem.{Problem}
-use Rattle.script.specs.declared.problems.Problem.the-variants.{OddDigits, NoHexDigit, TooManyBytes, OutOfMemory}
+use Rattle.script.specs.declared.problems.Problem.the-variants.{OddDigits, NoHexDigit, TooManyBytes}
 use Rattle.script.specs.Digits.{digitOf}
-use Rattle.script.specs.Numbers.{andThen, numberOf}
+use Rattle.script.specs.Numbers.{numberOf}
+use Rattle.script.specs.Outcomes.{andThen}
 use Rattle.std.specs.shelf.Lists.{leading}
 use Rattle.script.specs.declared.parts.Part.the-variants.{Until}
 use Rattle.script.specs.Parts.{among}
 use Rattle.script.specs.Words.{wordsOf}
-
--- an answer is the one that is looked for, unless memory was wanting
-abbrev pub Answers : {V X : Type 0} → (V → X) → Result X Problem → Result V Problem → Type 0
-Answers meaning x (Ok v) = x ≡ Ok (meaning v)
-Answers meaning x (Err p) = (p ≡ OutOfMemory → ⊥) → x ≡ Err p
 
 -- two digits are a byte
 abbrev pub byteFrom : Option ℕ → Option ℕ → Result ℕ Problem

@@ -4,6 +4,7 @@ pub mod Digits
 pub mod Explained
 pub mod Groups
 pub mod Numbers
+pub mod Outcomes
 pub mod Parts
 pub mod Spelled
 pub mod Words

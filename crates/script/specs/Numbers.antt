@@ -1,5 +1,5 @@
 -- The number that a text is.
-use Prim.Native.Nat.{ℕ, _+_, _*_, _-_, _^_}
+use Prim.Native.Nat.{ℕ, _+_, _*_, _^_}
 use mathlib.Core.Bool.{cond}
 use mathlib.Core.List.{List, [], _∷_}
 use lib.Dec.{eqb, ltb}
@@ -13,17 +13,13 @@ use Rattle.std.specs.declared.result.Result.the-variants.{Ok, Err}
 use Rattle.script.specs.declared.problems.Problem.{Problem}
 use Rattle.script.specs.declared.problems.Problem.the-variants.{NoNumber, NumberTooLarge}
 use Rattle.script.specs.Digits.{digitOf}
+use Rattle.script.specs.Outcomes.{andThen}
 
 -- the number n goes on with a digit of the base
 abbrev pub grownBy : ℕ → ℕ → Option ℕ → Result ℕ Problem
 grownBy base n None = Err NoNumber
 grownBy base n (Some d) =
     cond (ltb d base) (cond (ltb (n * base + d) (2 ^ 32)) (Ok (n * base + d)) (Err NumberTooLarge)) (Err NoNumber)
-
--- the first part's problem, or what comes after it
-abbrev pub andThen : {X Y : Type 0} → Result X Problem → (X → Result Y Problem) → Result Y Problem
-andThen (Ok x) f = f x
-andThen (Err p) f = Err p
 
 -- the number that digits of a base spell, after digits that spell n
 abbrev pub valueOf : ℕ → ℕ → List ℕ → Result ℕ Problem

@@ -12,7 +12,7 @@ use Rattle.std.specs.shelf.Lists.{All}
 use Rattle.std.specs.declared.result.Result.{Result}
 use Rattle.std.specs.declared.result.Result.the-variants.{Ok}
 use Rattle.script.specs.declared.problems.Problem.{Problem}
-use Rattle.script.specs.Groups.{Answers}
+use Rattle.script.specs.Outcomes.{Answers}
 
 -- the character of a digit: 0 to 9, a to f
 abbrev pub character : ℕ → ℕ

@@ -1,8 +1,8 @@
 //! A line of a script as a command. A new command is a variant, a name in `named` and a line of each one's definition.
 ghost use mathlib.Core.Path.{_≡_};
 ghost use Rattle.std.specs.shelf.Text.{sameBytes};
-ghost use Rattle.script.specs.Groups.{Answers};
-ghost use Rattle.script.specs.Commands.{requestOf, aloneOf, pathOf, moduleOf, namedOf, commandOf};
+ghost use Rattle.script.specs.Outcomes.{Answers};
+ghost use Rattle.script.specs.Commands.{requestOf, aloneOf, pathOf, moduleOf, namedOf, commandOf, CommentUnread, BlankUnread};
 use crate::groups::bytes;
 use crate::parts::content;
 use crate::problems::Problem;
@@ -33,6 +33,7 @@ fn file(path: &[u8]) -> Result<Command<'_>, Problem>
     }
 }
 
+// After the word `module`: `@` and a path, or bytes.
 fn module(heap: Global, rest: &[u8]) -> Result<Command<'_>, Problem>
     ensures { λ r. ⌜ Answers requestOf (moduleOf (now (rest .entry))) r ⌝ }
 {
@@ -59,6 +60,7 @@ fn is(word: &[u8], name: &[u8]) -> bool
     word == name
 }
 
+// A command by its name; `rest` is what stands after it.
 fn named<'a>(heap: Global, name: &[u8], rest: &'a [u8]) -> Result<Command<'a>, Problem>
     ensures { λ r. ⌜ Answers requestOf (namedOf (now (name .entry)) (now (rest .entry))) r ⌝ }
 {
@@ -73,7 +75,9 @@ fn named<'a>(heap: Global, name: &[u8], rest: &'a [u8]) -> Result<Command<'a>, P
 
 /// The command that a line asks for.
 pub fn parse(heap: Global, line: &[u8]) -> Result<Command<'_>, Problem>
-    ensures { λ r. ⌜ Answers requestOf (commandOf (now (line .entry))) r ⌝ }
+    ensures value { λ r. ⌜ Answers requestOf (commandOf (now (line .entry))) r ⌝ }
+    ensures comment { λ _. ⌜ CommentUnread (now (line .entry)) ⌝ }
+    ensures blank { λ _. ⌜ BlankUnread (now (line .entry)) ⌝ }
 {
     let mut words = Words::new(content(line));
     match words.next() {

@@ -3,7 +3,8 @@
 ghost use mathlib.Core.Path.{_≡_};
 ghost use mathlib.Core.List.{[]};
 ghost use Rattle.std.specs.Of.Vec.{vec-items};
-ghost use Rattle.script.specs.Groups.{byteOf, leftOver, pairsOf, countOf, repeatedOf, groupOf, bytesOf, Answers};
+ghost use Rattle.script.specs.Groups.{byteOf, leftOver, pairsOf, countOf, repeatedOf, groupOf, bytesOf};
+ghost use Rattle.script.specs.Outcomes.{Answers};
 ghost use Rattle.script.specs.Spelled.{ReadsBytes};
 use crate::numbers::digit;
 use crate::numbers::number;
@@ -36,6 +37,7 @@ fn alone(character: u8) -> Problem
     }
 }
 
+// The bytes that pairs of digits write.
 fn pairs(heap: Global, digits: &[u8]) -> Result<Vec<u8>, Problem>
     ensures { λ r. ⌜ Answers vec-items (pairsOf [] (now (digits .entry))) r ⌝ }
 {
@@ -65,6 +67,7 @@ fn count(rest: &[u8]) -> Result<u32, Problem>
 fn repeated(mut bytes: Vec<u8>, group: &[u8], count: u32) -> Result<Vec<u8>, Problem>
     ensures { λ r. ⌜ Answers vec-items (repeatedOf (vec-items bytes) (now (group .entry)) count) r ⌝ }
 {
+    // Saturated, the sum of an overlong group is still above the limit.
     let added = group.len().saturating_mul(count as usize);
     if bytes.len().saturating_add(added) > LIMIT {
         return Err(Problem::TooManyBytes);
@@ -75,10 +78,12 @@ fn repeated(mut bytes: Vec<u8>, group: &[u8], count: u32) -> Result<Vec<u8>, Pro
     Ok(bytes)
 }
 
+// `bytes`, and then those of one word: digits, and how often they come.
 fn grouped(heap: Global, bytes: Vec<u8>, word: &[u8]) -> Result<Vec<u8>, Problem>
     ensures { λ r. ⌜ Answers vec-items (groupOf (vec-items bytes) (now (word .entry))) r ⌝ }
 {
     let (digits, rest) = word.split_at(Part::Until(b'*').size(word));
+    // A group of nothing would be repeated in vain.
     if digits.is_empty() {
         return Err(Problem::NoHexDigit);
     }

@@ -34,6 +34,7 @@ fn grown(value: u32, base: u8, character: u8) -> Result<u32, Problem>
     Ok(next as u32)
 }
 
+// Digits of a base, at least one.
 fn numeral(digits: &[u8], base: u8) -> Result<u32, Problem>
     ensures { λ r. ⌜ r ≡ numeralOf base (now (digits .entry)) ⌝ }
 {

@@ -26,6 +26,7 @@ impl<'a> Words<'a> {
         rest
     }
 
+    /// The next word, where there is one; the place is then after it.
     pub fn next(&mut self) -> Option<&'a [u8]>
         ensures word { λ r. ⌜ mapped now r ≡ firstWord (now (now (self .entry) .left)) ⌝ }
         ensures after { λ r. ⌜ now (now (self .exit) .left) ≡ afterWord (now (now (self .entry) .left)) ⌝ }

@@ -1,4 +1,4 @@
-use mathlib.Core.Path.{_≡_, sym, ap, _∙_}
+use mathlib.Core.Path.{sym, ap, _∙_}
 use mathlib.Core.List.{List, []}
 use Prim.Native.Nat.{ℕ}
 use native.Mathlib.Omega.{arith}
@@ -6,7 +6,8 @@ use lib.ListN.{length}
 use Rattle.std.specs.Of.Vec.{vec-items}
 use Rattle.std.specs.declared.result.Result.the-variants.{Ok}
 use Rattle.std.proofs.shelf.Results.{err-from-errBy}
-use Rattle.script.specs.Groups.{groupsOf, bytesOf, Answers}
+use Rattle.script.specs.Groups.{groupsOf, bytesOf}
+use Rattle.script.specs.Outcomes.{Answers}
 use Rattle.script.specs.Words.{wordsOf}
 use Rattle.script.proofs.Rereading.{reads-bytes}
 use Rattle.script.proofs.Gathers.{gather-turn, gather-stop}

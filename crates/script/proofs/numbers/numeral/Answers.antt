@@ -1,7 +1,4 @@
-use mathlib.Core.Path.{_≡_, sym, _∙_}
-use lib.Dec.{eqb}
-use lib.ListN.{length}
-use mathlib.Core.Bool.{false}
+use mathlib.Core.Path.{sym, _∙_}
 use Rattle.std.proofs.shelf.Lists.{at-drop-all}
 use Rattle.std.proofs.shelf.Results.{err-from-errBy}
 use Rattle.std.proofs.shelf.Tests.{cond-false}
