@@ -12,7 +12,9 @@ use Rattle.std.specs.declared.option.Option.{Option}
 use Rattle.std.specs.declared.option.Option.the-variants.{Some, None}
 use Rattle.x86.specs.declared.registers.Width.{Width}
 use Rattle.x86.specs.declared.registers.Width.the-variants.{Byte, Long}
+use Rattle.x86.specs.declared.registers.Register.{Register as Register32}
 use Rattle.x86.specs.declared.operands.Address.{Address}
+use Rattle.x86.specs.declared.operands.Index.{Index}
 use Rattle.x86.specs.declared.operands.Modrm.{Modrm}
 use Rattle.x86.specs.declared.operands.RegisterOrMemory.{RegisterOrMemory}
 use Rattle.x86.specs.declared.operands.RegisterOrMemory.the-variants.{Register, Memory}
@@ -22,7 +24,7 @@ use Rattle.x86.specs.declared.forms.Form.the-variants.{Alone, WithImmediate, W
 use Rattle.x86.specs.Numbers.{widthBytes}
 use Rattle.x86.specs.Meanings.{extended, aloneMeans, immediateWidth, immediateMeans, operandMeans, bothWidth, bothMeans}
 use Rattle.x86.specs.Decoded.{longAt, valueAt, address, baseOf, indexOf, displacementWidth, displacementAt, addressAt, modrm, modrmAt, formAt}
-use Rattle.x86.specs.Grammar.{Spells, byte, long, Displaces, not-at-all, by, fields, Addresses, based, scaled, Names, register, memory, Follows, nothing, immediate, operand, both}
+use Rattle.x86.specs.Grammar.{Spells, byte, long, Displaces, not-at-all, by, fields, Bases, plain, absolute, near, far, Indexes, scaled-by, unscaled, index, Addresses, based, scaled, Names, register, memory, Follows, nothing, immediate, operand, both}
 use Rattle.x86.proofs.Bytes.{Holds, same-place, holds-left, holds-right}
 
 pub spelled-length : (w : Width) (v : ℕ) (e : List ℕ) → Spells w v e → length e ≡ widthBytes w
@@ -65,28 +67,62 @@ passed-over false x y z e h = h
 alike : {B : Type 0} (f : ℕ → ℕ → ℕ → B) (a b c x y z : ℕ) → a ≡ x → b ≡ y → c ≡ z → f a b c ≡ f x y z
 alike f a b c x y z p q r = cc
 
+-- the base and the displacement's width, as the decoder has them
+pub base-read : (m n : ℕ) (b : Option Register32) (w : Option Width) → Bases m n b w → (baseOf m n ≡ b) × (displacementWidth m n ≡ w)
+base-read _ _ _ _ (plain n h h5) = (passed-over (eqb n 5) _ _ _ (ne-eqb n 5 h5) refl, passed-over (eqb n 5) _ _ _ (ne-eqb n 5 h5) refl)
+base-read _ _ _ _ absolute = (refl, refl)
+base-read _ _ _ _ (near n h) = (refl, refl)
+base-read _ _ _ _ (far n h) = (refl, refl)
+
+pub base-fits : (m n : ℕ) (b : Option Register32) (w : Option Width) → Bases m n b w → (m < 3) × (n < 8)
+base-fits _ _ _ _ (plain n h h5) = (omega arith, h)
+base-fits _ _ _ _ absolute = (omega arith, omega arith)
+base-fits _ _ _ _ (near n h) = (omega arith, h)
+base-fits _ _ _ _ (far n h) = (omega arith, h)
+
+pub index-read : (s i : ℕ) (x : Option Register32) → Indexes s i x → indexOf s i ≡ index x s
+index-read _ _ _ (scaled-by s i hs hi h4) = ap (λ (r : Option Register32). index r s) (passed-over (eqb i 4) _ _ _ (ne-eqb i 4 h4) refl)
+index-read _ _ _ (unscaled s hs) = refl
+
+pub index-fits : (s i : ℕ) (x : Option Register32) → Indexes s i x → (s < 4) × (i < 8)
+index-fits _ _ _ (scaled-by s i hs hi h4) = (hs, hi)
+index-fits _ _ _ (unscaled s hs) = (hs, omega arith)
+
 sib : List ℕ → ℕ → ℕ → ℕ → ℕ → ℕ → Address × ℕ
 sib bs p m b s i = (address (baseOf m b) (Some (indexOf s i)) (displacementAt (displacementWidth m b) bs (p + 1) .0), displacementAt (displacementWidth m b) bs (p + 1) .1)
 
-reads-scaled : (bs : List ℕ) (p m s i b : ℕ) (d : Option ℕ) (e : List ℕ) → s < 4 → i < 8 → b < 8 → Displaces (displacementWidth m b) d e → Holds bs p (fields s i b ∷ e) →
-    sib bs p m (getD bs p 0 % 8) (getD bs p 0 / 64) ((getD bs p 0 / 8) % 8) ≡ (address (baseOf m b) (Some (indexOf s i)) d, p + length (fields s i b ∷ e))
+-- the address by its parts
+in-parts : (bs : List ℕ) (p m n : ℕ) (b : Option Register32) (w : Option Width) (x : Option Index) (d : Option ℕ) (q : ℕ) →
+    baseOf m n ≡ b → displacementWidth m n ≡ w → displacementAt w bs p ≡ (d, q) →
+    _≡_ {A = Address × ℕ} (address (baseOf m n) x (displacementAt (displacementWidth m n) bs p .0), displacementAt (displacementWidth m n) bs p .1) (address b x d, q)
+in-parts bs p m n b w x d q hb hw hd =
+    ap (λ (c : Option Register32). (address c x (displacementAt (displacementWidth m n) bs p .0), displacementAt (displacementWidth m n) bs p .1)) hb
+    ∙ ap (λ (v : Option Width). (address b x (displacementAt v bs p .0), displacementAt v bs p .1)) hw
+    ∙ ap (λ (y : Option ℕ × ℕ). (address b x (y .0), y .1)) hd
+
+reads-scaled : (bs : List ℕ) (p m s i n : ℕ) (b x : Option Register32) (w : Option Width) (d : Option ℕ) (e : List ℕ) → Bases m n b w → Indexes s i x → Displaces w d e →
+    Holds bs p (fields s i n ∷ e) →
+    sib bs p m (getD bs p 0 % 8) (getD bs p 0 / 64) ((getD bs p 0 / 8) % 8) ≡ (address b (Some (index x s)) d, p + length (fields s i n ∷ e))
 unfolding sib
-reads-scaled bs p m s i b d e hs hi hb t k =
-    alike (sib bs p m) (getD bs p 0 % 8) (getD bs p 0 / 64) ((getD bs p 0 / 8) % 8) b s i
-    (ap (λ (x : ℕ). x % 8) (k .0) ∙ low-field s i b hi hb) (ap (λ (x : ℕ). x / 64) (k .0) ∙ high-field s i b hi hb) (ap (λ (x : ℕ). (x / 8) % 8) (k .0) ∙ middle-field s i b hi hb)
-    ∙ ap (λ (x : Option ℕ × ℕ). (address (baseOf m b) (Some (indexOf s i)) (x .0), x .1)) (reads-displacement bs (p + 1) (displacementWidth m b) d e t (k .1))
-    ∙ ap (λ (q : ℕ). (address (baseOf m b) (Some (indexOf s i)) d, q)) (omega arith)
+reads-scaled bs p m s i n b x w d e hb hx t k =
+    let fb = base-fits m n b w hb in
+    let fx = index-fits s i x hx in
+    alike (sib bs p m) (getD bs p 0 % 8) (getD bs p 0 / 64) ((getD bs p 0 / 8) % 8) n s i
+    (ap (λ (y : ℕ). y % 8) (k .0) ∙ low-field s i n (fx .1) (fb .1)) (ap (λ (y : ℕ). y / 64) (k .0) ∙ high-field s i n (fx .1) (fb .1)) (ap (λ (y : ℕ). (y / 8) % 8) (k .0) ∙ middle-field s i n (fx .1) (fb .1))
+    ∙ in-parts bs (p + 1) m n b w (Some (indexOf s i)) d (p + 1 + length e) (base-read m n b w hb .0) (base-read m n b w hb .1) (reads-displacement bs (p + 1) w d e t (k .1))
+    ∙ ap (λ (y : Index). (address b (Some y) d, p + 1 + length e)) (index-read s i x hx)
+    ∙ ap (λ (q : ℕ). (address b (Some (index x s)) d, q)) (omega arith)
 
 pub reads-address : (bs : List ℕ) (p m n : ℕ) (a : Address) (e : List ℕ) → Addresses m n a e → Holds bs p e → addressAt bs p m n ≡ (a, p + length e)
 unfolding sib
-reads-address bs p _ _ _ _ (based m n d e hm hn h4 s) k =
+reads-address bs p _ _ _ _ (based m n b w d e hb h4 s) k =
     passed-over (eqb n 4) _ _ _ (ne-eqb n 4 h4)
-    (ap (λ (x : Option ℕ × ℕ). (address (baseOf m n) None (x .0), x .1)) (reads-displacement bs p (displacementWidth m n) d e s k))
-reads-address bs p _ _ _ _ (scaled m s i b d e hm hs hi hb t) k = reads-scaled bs p m s i b d e hs hi hb t k
+    (in-parts bs p m n b w None d (p + length e) (base-read m n b w hb .0) (base-read m n b w hb .1) (reads-displacement bs p w d e s k))
+reads-address bs p _ _ _ _ (scaled m s i n b x w d e hb hx t) k = reads-scaled bs p m s i n b x w d e hb hx t k
 
 pub addresses-fit : (m n : ℕ) (a : Address) (e : List ℕ) → Addresses m n a e → (m < 3) × (n < 8)
-addresses-fit _ _ _ _ (based m n d e hm hn h4 s) = (hm, hn)
-addresses-fit _ _ _ _ (scaled m s i b d e hm hs hi hb t) = (hm, omega arith)
+addresses-fit _ _ _ _ (based m n b w d e hb h4 s) = base-fits m n b w hb
+addresses-fit _ _ _ _ (scaled m s i n b x w d e hb hx t) = (base-fits m n b w hb .0, omega arith)
 
 named : List ℕ → ℕ → ℕ → ℕ → ℕ → Modrm
 named bs p r m n = modrm r (Memory (addressAt bs (p + 1) m n .0)) (addressAt bs (p + 1) m n .1)

@@ -6,3 +6,4 @@ pub mod Sound
 pub mod Meets
 pub mod Unambiguous
 pub mod Paired
+pub mod Shift

@@ -17,11 +17,11 @@ use Rattle.x86.specs.Decoded.{formAt, rowAt, readAt, within, decodedAt, instru
 use Rattle.x86.specs.Instructions.{classOf}
 use Rattle.x86.specs.Grammar.{Opens, one-byte, two-byte, Follows, Encodes, encoding, opcode, count}
 use Rattle.x86.specs.Octets.{Octets}
-use Rattle.x86.specs.Laws.{EveryEncoding, OnlyEncodings, Unambiguous, ClassesApart}
+use Rattle.x86.specs.Laws.{EveryEncoding}
 use Rattle.x86.proofs.Bytes.{Holds, same-place, holds-end, holds-left, holds-right, holds-join, holds-from, holds-some, holds-take}
 use Rattle.x86.proofs.Complete.{chosen, passed-over, reads-form}
 use Rattle.x86.proofs.Table.{found-one, found-two, not-0F, looked-one, looked-two, Found}
-use Rattle.x86.proofs.Sound.{Stands, form-stands, form-after}
+use Rattle.x86.proofs.Sound.{Stands, Between, form-stands, form-after}
 
 -- the opcode leads to its form
 reads-opcode : (bs : List ℕ) (p : ℕ) (f : Form) (n : ℕ) (os : List ℕ) → Opens f n os → Holds bs p os → readAt bs p ≡ formAt bs (p + length os) f n
@@ -65,57 +65,66 @@ encoded bs p q r f n i os o k e s =
 reopened : (r : Row) (f : Form) (n b : ℕ) (os : ℕ → List ℕ) → Opens (r .form) n (os (opcode (r .opcodes) n)) → r .form ≡ f → opcode (r .opcodes) n ≡ b → Opens f n (os b)
 reopened r f n b os o e h = subst (λ (f : Form). Opens f n (os b)) e (subst (λ (b : ℕ). Opens (r .form) n (os b)) h o)
 
-behind : (bs : List ℕ) (p q : ℕ) (f : Form) (n : ℕ) (i : Instruction) (os : List ℕ) → Octets bs → Opens f n os → Holds bs p os → formAt bs (p + length os) f n ≡ Some (i, q) → q ≤ length bs →
+behind : (bs : List ℕ) (p q : ℕ) (f : Form) (n : ℕ) (i : Instruction) (os : List ℕ) → Between bs p q → Opens f n os → Holds bs p os → formAt bs (p + length os) f n ≡ Some (i, q) →
     Stands (Encodes i) bs p q
-behind bs p q f n i os o s k e h =
-    encoded bs p (p + length os) q f n i os s k refl (form-stands bs (p + length os) f n i q o (holds-end bs os p k) e h)
+behind bs p q f n i os o s k e =
+    encoded bs p (p + length os) q f n i os s k refl (form-stands bs p q (p + length os) f n i q o (omega arith) e (omega arith))
 
-one-stands : (bs : List ℕ) (p q : ℕ) (x : Option (Form × ℕ)) (i : Instruction) → Octets bs → p < length bs → lookUp oneByteRows (getD bs p 0) ≡ x → rowAt bs (p + 1) x ≡ Some (i, q) → q ≤ length bs →
+one-stands : (bs : List ℕ) (p q : ℕ) (x : Option (Form × ℕ)) (i : Instruction) → Between bs p q → p + 1 ≤ q → lookUp oneByteRows (getD bs p 0) ≡ x → rowAt bs (p + 1) x ≡ Some (i, q) →
     Stands (Encodes i) bs p q
-one-stands bs p q None i o l e h k = let z : _≡_ {A = ℕ} 0 1 = cc in absurd (omega arith)
-one-stands bs p q (Some x) i o l e h k =
-    let w = looked-one (getD bs p 0) (x .0) (x .1) (o p) e in
+one-stands bs p q None i o l e h = let z : _≡_ {A = ℕ} 0 1 = cc in absurd (omega arith)
+one-stands bs p q (Some x) i o l e h =
+    let w = looked-one (getD bs p 0) (x .0) (x .1) (o .octets p (omega arith) (omega arith)) e in
     behind bs p q (x .0) (x .1) i (getD bs p 0 ∷ []) o
     (reopened (w .row) (x .0) (x .1) (getD bs p 0) (λ b. b ∷ []) (one-byte (w .row) (x .1) (w .listed) (w .number)) (w .form) (w .opens))
-    (refl, omega arith) h k
+    (refl, omega (arith, o .inside)) h
 
-two-stands : (bs : List ℕ) (p q : ℕ) (x : Option (Form × ℕ)) (i : Instruction) → Octets bs → p + 1 < length bs → getD bs p 0 ≡ 0x0F → lookUp twoByteRows (getD bs (p + 1) 0) ≡ x → rowAt bs (p + 2) x ≡ Some (i, q) → q ≤ length bs →
+two-stands : (bs : List ℕ) (p q : ℕ) (x : Option (Form × ℕ)) (i : Instruction) → Between bs p q → p + 2 ≤ q → getD bs p 0 ≡ 0x0F → lookUp twoByteRows (getD bs (p + 1) 0) ≡ x → rowAt bs (p + 2) x ≡ Some (i, q) →
     Stands (Encodes i) bs p q
-two-stands bs p q None i o l g e h k = let z : _≡_ {A = ℕ} 0 1 = cc in absurd (omega arith)
-two-stands bs p q (Some x) i o l g e h k =
-    let w = looked-two (getD bs (p + 1) 0) (x .0) (x .1) (o (p + 1)) e in
+two-stands bs p q None i o l g e h = let z : _≡_ {A = ℕ} 0 1 = cc in absurd (omega arith)
+two-stands bs p q (Some x) i o l g e h =
+    let w = looked-two (getD bs (p + 1) 0) (x .0) (x .1) (o .octets (p + 1) (omega arith) (omega arith)) e in
     behind bs p q (x .0) (x .1) i (0x0F ∷ (getD bs (p + 1) 0 ∷ [])) o
     (reopened (w .row) (x .0) (x .1) (getD bs (p + 1) 0) (λ b. 0x0F ∷ (b ∷ [])) (two-byte (w .row) (x .1) (w .listed) (w .number)) (w .form) (w .opens))
-    (g, (refl, omega arith)) h k
+    (g, (refl, omega (arith, o .inside))) h
 
 row-after : (bs : List ℕ) (p q : ℕ) (x : Option (Form × ℕ)) (i : Instruction) → rowAt bs p x ≡ Some (i, q) → p ≤ q
 row-after bs p q None i e = let z : _≡_ {A = ℕ} 0 1 = cc in absurd (omega arith)
 row-after bs p q (Some x) i e = form-after bs p (x .0) (x .1) i q e
 
-read-stands : (bs : List ℕ) (p q : ℕ) (i : Instruction) (t : Bool) → Octets bs → eqb (getD bs p 0) 0x0F ≡ t →
-    cond t (rowAt bs (p + 2) (lookUp twoByteRows (getD bs (p + 1) 0))) (rowAt bs (p + 1) (lookUp oneByteRows (getD bs p 0))) ≡ Some (i, q) → q ≤ length bs → Stands (Encodes i) bs p q
-read-stands bs p q i true o e h k =
+read-stands : (bs : List ℕ) (p q : ℕ) (i : Instruction) (t : Bool) → Between bs p q → eqb (getD bs p 0) 0x0F ≡ t →
+    cond t (rowAt bs (p + 2) (lookUp twoByteRows (getD bs (p + 1) 0))) (rowAt bs (p + 1) (lookUp oneByteRows (getD bs p 0))) ≡ Some (i, q) → Stands (Encodes i) bs p q
+read-stands bs p q i true o e h =
     let l : p + 2 ≤ q = row-after bs (p + 2) q (lookUp twoByteRows (getD bs (p + 1) 0)) i h in
-    two-stands bs p q (lookUp twoByteRows (getD bs (p + 1) 0)) i o (omega arith) (eqb-true (getD bs p 0) 0x0F e) refl h k
-read-stands bs p q i false o e h k =
+    two-stands bs p q (lookUp twoByteRows (getD bs (p + 1) 0)) i o l (eqb-true (getD bs p 0) 0x0F e) refl h
+read-stands bs p q i false o e h =
     let l : p + 1 ≤ q = row-after bs (p + 1) q (lookUp oneByteRows (getD bs p 0)) i h in
-    one-stands bs p q (lookUp oneByteRows (getD bs p 0)) i o (omega arith) refl h k
+    one-stands bs p q (lookUp oneByteRows (getD bs p 0)) i o l refl h
 
 -- what is inside the bytes stands there
-inside-stands : (bs : List ℕ) (p : ℕ) (x : Instruction × ℕ) (d : Decoded) (t : Bool) → leb (x .1) (length bs) ≡ t →
-    cond t (Some (instructionOf (x .0) (x .1 - p))) None ≡ Some d → (x .1 ≤ length bs → Stands (Encodes (x .0)) bs p (x .1)) → Encodes (d .instruction) (take (d .length) (drop p bs))
-inside-stands bs p x d false e h f = let z : _≡_ {A = ℕ} 0 1 = cc in absurd (omega arith)
-inside-stands bs p x d true e h f =
-    let s = f (leb-true (x .1) (length bs) e) in
-    let n : x .1 - p ≡ length (s .part) = omega (arith, s .ends) in
+inside-stands : (bs : List ℕ) (p : ℕ) (x : Instruction × ℕ) (d : Decoded) (t : Bool) → leb (x .1) (length bs) ≡ t → p ≤ x .1 →
+    cond t (Some (instructionOf (x .0) (x .1 - p))) None ≡ Some d → Octets bs p (p + d .length) → (Between bs p (x .1) → Stands (Encodes (x .0)) bs p (x .1)) →
+    Encodes (d .instruction) (take (d .length) (drop p bs))
+inside-stands bs p x d false e l h o f = let z : _≡_ {A = ℕ} 0 1 = cc in absurd (omega arith)
+inside-stands bs p x d true e l h o f =
     let y : instructionOf (x .0) (x .1 - p) ≡ d = cc in
+    let g : p + d .length ≡ x .1 = omega (arith, ap (λ (d : Decoded). d .length) y) in
+    let s = f (record { octets = subst (λ (q : ℕ). Octets bs p q) g o; inside = leb-true (x .1) (length bs) e }) in
+    let n : x .1 - p ≡ length (s .part) = omega (arith, s .ends) in
     subst (λ (d : Decoded). Encodes (d .instruction) (take (d .length) (drop p bs))) y
     (subst (λ (e : List ℕ). Encodes (x .0) e) (sym (ap (λ (n : ℕ). take n (drop p bs)) n ∙ holds-take bs (s .part) p (s .there))) (s .is))
 
-read-only : (bs : List ℕ) (p : ℕ) (x : Option (Instruction × ℕ)) (d : Decoded) → Octets bs → readAt bs p ≡ x → within bs p x ≡ Some d → Encodes (d .instruction) (take (d .length) (drop p bs))
+read-after : (bs : List ℕ) (p : ℕ) (x : Instruction × ℕ) (t : Bool) →
+    cond t (rowAt bs (p + 2) (lookUp twoByteRows (getD bs (p + 1) 0))) (rowAt bs (p + 1) (lookUp oneByteRows (getD bs p 0))) ≡ Some x → p ≤ x .1
+read-after bs p x true h = omega (arith, row-after bs (p + 2) (x .1) (lookUp twoByteRows (getD bs (p + 1) 0)) (x .0) h)
+read-after bs p x false h = omega (arith, row-after bs (p + 1) (x .1) (lookUp oneByteRows (getD bs p 0)) (x .0) h)
+
+read-only : (bs : List ℕ) (p : ℕ) (x : Option (Instruction × ℕ)) (d : Decoded) → Octets bs p (p + d .length) → readAt bs p ≡ x → within bs p x ≡ Some d →
+    Encodes (d .instruction) (take (d .length) (drop p bs))
 read-only bs p None d o e h = let z : _≡_ {A = ℕ} 0 1 = cc in absurd (omega arith)
 read-only bs p (Some x) d o e h =
-    inside-stands bs p x d (leb (x .1) (length bs)) refl h (λ k. read-stands bs p (x .1) (x .0) (eqb (getD bs p 0) 0x0F) o refl e k)
+    inside-stands bs p x d (leb (x .1) (length bs)) refl (read-after bs p x (eqb (getD bs p 0) 0x0F) e) h o (λ k. read-stands bs p (x .1) (x .0) (eqb (getD bs p 0) 0x0F) k refl e)
 
-pub only-encodings : (bs : List ℕ) (p : ℕ) → OnlyEncodings bs p (decodedAt bs p)
-only-encodings bs p o d e = read-only bs p (readAt bs p) d o refl e
+-- an answer whose bytes are bytes is an encoding
+pub only-encodings : (bs : List ℕ) (p : ℕ) (d : Decoded) → Octets bs p (p + d .length) → decodedAt bs p ≡ Some d → Encodes (d .instruction) (take (d .length) (drop p bs))
+only-encodings bs p d o e = read-only bs p (readAt bs p) d o refl e

@@ -27,7 +27,7 @@ use Rattle.x86.specs.Rows.{Row}
 use Rattle.x86.specs.Pairs.{maskOf, leaveOf}
 use Rattle.x86.specs.Decoded.{decodedAt, instructionOf}
 use Rattle.x86.specs.Grammar.{Among, first, later, Opens, one-byte, two-byte, Spells, byte, long, Displaces, not-at-all, by, fields, Addresses, based, scaled, Names, register, memory, Follows, nothing, immediate, operand, both, Encodes, encoding}
-use Rattle.x86.specs.Laws.{Unambiguous, ClassesApart, Short, Halves, mask, leave}
+use Rattle.x86.specs.Laws.{Unambiguous, ClassesApart, Short, Halves, Pairs, paired, mask, leave}
 use Rattle.x86.proofs.Complete.{spelled-length}
 use Rattle.x86.proofs.Meets.{every-encoding}
 
@@ -65,8 +65,8 @@ displacement-short _ _ _ not-at-all = omega arith
 displacement-short _ _ _ (by w v e s) = at-most-four w v e s
 
 address-short : (m n : ℕ) (a : Address) (e : List ℕ) → Addresses m n a e → length e ≤ 5
-address-short _ _ _ _ (based m n d e hm hn h4 s) = omega (arith, displacement-short _ d e s)
-address-short _ _ _ _ (scaled m s i b d e hm hs hi hb t) = omega (arith, displacement-short _ d e t)
+address-short _ _ _ _ (based m n b w d e hb h4 s) = omega (arith, displacement-short w d e s)
+address-short _ _ _ _ (scaled m s i n b x w d e hb hx t) = omega (arith, displacement-short w d e t)
 
 names-short : (r : ℕ) (o : RegisterOrMemory) (e : List ℕ) → Names r o e → length e ≤ 6
 names-short _ _ _ (register r n hr hn) = omega arith
@@ -108,4 +108,4 @@ leaves n Call h =
     (operand Through 0 2 (Register n) (fields 3 2 n ∷ []) (Loose (leaveOf Call (registerOf n))) (register 2 n (omega arith) h) refl))
 
 pub halves : Halves
-halves n t h = (masks-with n h, leaves n t h)
+halves _ _ (paired n t h h4) = (masks-with n h, leaves n t h)

@@ -7,7 +7,9 @@ use Rattle.std.specs.declared.option.Option.{Option}
 use Rattle.std.specs.declared.option.Option.the-variants.{Some, None}
 use Rattle.x86.specs.declared.registers.Width.{Width}
 use Rattle.x86.specs.declared.registers.Width.the-variants.{Byte, Long}
+use Rattle.x86.specs.declared.registers.Register.{Register as Register32}
 use Rattle.x86.specs.declared.operands.Address.{Address}
+use Rattle.x86.specs.declared.operands.Index.{Index}
 use Rattle.x86.specs.declared.operands.RegisterOrMemory.{RegisterOrMemory}
 use Rattle.x86.specs.declared.operands.RegisterOrMemory.the-variants.{Register, Memory}
 use Rattle.x86.specs.declared.instructions.Instruction.{Instruction}
@@ -17,9 +19,9 @@ use Rattle.x86.specs.declared.forms.WithOperand.{WithOperand as OperandForm}
 use Rattle.x86.specs.declared.forms.WithBoth.{WithBoth as BothForm}
 use Rattle.x86.specs.declared.forms.Form.{Form}
 use Rattle.x86.specs.declared.forms.Form.the-variants.{Alone, WithImmediate, WithOperand, WithBoth}
+use Rattle.x86.specs.Numbers.{registerOf, scaleOf}
 use Rattle.x86.specs.Rows.{Opcodes, only, eight, sixteen, every-eighth, Row, oneByteRows, twoByteRows}
 use Rattle.x86.specs.Meanings.{extended, aloneMeans, immediateWidth, immediateMeans, operandMeans, bothWidth, bothMeans}
-use Rattle.x86.specs.Decoded.{address, baseOf, indexOf, displacementWidth}
 
 -- how many opcodes a row has
 abbrev pub count : Opcodes → ℕ
@@ -59,14 +61,32 @@ pub data Displaces : Option Width → Option ℕ → List ℕ → Type 0 where
 abbrev pub fields : ℕ → ℕ → ℕ → ℕ
 fields high middle low = 64 * high + (8 * middle + low)
 
+-- mod and a number: the base register, and how wide the displacement is
+pub data Bases : ℕ → ℕ → Option Register32 → Option Width → Type 0 where
+  plain : (n : ℕ) → n < 8 → (n ≡ 5 → ⊥) → Bases 0 n (Some (registerOf n)) None
+  absolute : Bases 0 5 None (Some Long)
+  near : (n : ℕ) → n < 8 → Bases 1 n (Some (registerOf n)) (Some Byte)
+  far : (n : ℕ) → n < 8 → Bases 2 n (Some (registerOf n)) (Some Long)
+
+-- a SIB byte's scale and index: the number 4 is no register
+pub data Indexes : ℕ → ℕ → Option Register32 → Type 0 where
+  scaled-by : (s i : ℕ) → s < 4 → i < 8 → (i ≡ 4 → ⊥) → Indexes s i (Some (registerOf i))
+  unscaled : (s : ℕ) → s < 4 → Indexes s 4 None
+
+abbrev pub index : Option Register32 → ℕ → Index
+index r s = record { register = r; scale = scaleOf s }
+
+abbrev pub address : Option Register32 → Option Index → Option ℕ → Address
+address b i d = record { base = b; index = i; displacement = d }
+
 -- mod, rm, the address that they name, and the bytes behind the ModRM byte: rm 4 means that a SIB byte follows
 pub data Addresses : ℕ → ℕ → Address → List ℕ → Type 0 where
   based :
-      (m n : ℕ) (d : Option ℕ) (bs : List ℕ) → m < 3 → n < 8 → (n ≡ 4 → ⊥) → Displaces (displacementWidth m n) d bs →
-      Addresses m n (address (baseOf m n) None d) bs
+      (m n : ℕ) (b : Option Register32) (w : Option Width) (d : Option ℕ) (bs : List ℕ) → Bases m n b w → (n ≡ 4 → ⊥) → Displaces w d bs →
+      Addresses m n (address b None d) bs
   scaled :
-      (m s i b : ℕ) (d : Option ℕ) (bs : List ℕ) → m < 3 → s < 4 → i < 8 → b < 8 → Displaces (displacementWidth m b) d bs →
-      Addresses m 4 (address (baseOf m b) (Some (indexOf s i)) d) (fields s i b ∷ bs)
+      (m s i n : ℕ) (b x : Option Register32) (w : Option Width) (d : Option ℕ) (bs : List ℕ) → Bases m n b w → Indexes s i x →
+      Displaces w d bs → Addresses m 4 (address b (Some (index x s)) d) (fields s i n ∷ bs)
 
 -- reg, the operand, and the bytes from the ModRM byte on: mod 3 is a register
 pub data Names : ℕ → RegisterOrMemory → List ℕ → Type 0 where

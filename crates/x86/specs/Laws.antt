@@ -16,7 +16,6 @@ use Rattle.x86.specs.Decoded.{instructionOf}
 use Rattle.x86.specs.Instructions.{classOf}
 use Rattle.x86.specs.Pairs.{pairOf, maskOf, leaveOf}
 use Rattle.x86.specs.Grammar.{Encodes}
-use Rattle.x86.specs.Octets.{Octets}
 
 -- the n bytes from p on are some, and lie inside
 abbrev pub Inside : List ℕ → ℕ → ℕ → Type 0
@@ -30,7 +29,7 @@ EveryEncoding bs p answer =
 -- whatever is answered is an encoding that stands at p
 abbrev pub OnlyEncodings : List ℕ → ℕ → Option Decoded → Type 0
 OnlyEncodings bs p answer =
-    Octets bs → (d : Decoded) → answer ≡ Some d → Encodes (d .instruction) (take (d .length) (drop p bs))
+    (d : Decoded) → answer ≡ Some d → Encodes (d .instruction) (take (d .length) (drop p bs))
 
 -- no encoding is a proper prefix of another, and no bytes are two instructions
 abbrev pub Unambiguous : Type 0
@@ -70,7 +69,8 @@ EveryPair bs p answer = (x : Pair) (e after : List ℕ) → Pairs x e → drop p
 abbrev pub OnlyPairs : List ℕ → ℕ → Option Pair → Type 0
 OnlyPairs bs p answer = (x : Pair) → answer ≡ Some x → Pairs x (take 5 (drop p bs))
 
--- the halves of a pair are the masking AND and the loose jump or call, through one register
+-- the first three bytes of a pair are an encoding of the masking AND, the last two of the loose jump or call
 abbrev pub Halves : Type 0
 Halves =
-    (n : ℕ) (t : Transfer) → n < 8 → Encodes (Straight (maskOf (registerOf n))) (mask n) × Encodes (Loose (leaveOf t (registerOf n))) (leave t n)
+    (x : Pair) (e : List ℕ) → Pairs x e →
+    Encodes (Straight (maskOf (x .register))) (take 3 e) × Encodes (Loose (leaveOf (x .transfer) (x .register))) (drop 3 e)

@@ -21,7 +21,7 @@ pub impl Code for Vec<u8> as VecCode {
     ghost bytes = { λ v. vec-items v };
 
     fn len(&self) -> usize {
-        Vec::len(self)
+        self.as_slice().len()
     }
 
     fn byte(&self, i: usize) -> u8 {
@@ -33,8 +33,8 @@ pub impl Code for &[u8] as SliceCode {
     ghost bytes = { λ s. s .now };
 
     fn len(&self) -> usize {
-        let s: &[u8] = *self;
-        s.len()
+        let bytes: &[u8] = *self;
+        bytes.len()
     }
 
     fn byte(&self, i: usize) -> u8 {

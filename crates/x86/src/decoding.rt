@@ -3,6 +3,7 @@ ghost use mathlib.Core.Path.{_≡_};
 ghost use Prim.Native.Nat.{_+_, _*_, _<_, _≤_, _^_};
 ghost use Rattle.std.specs.Options.{Cases};
 ghost use Rattle.x86.specs.Laws.{Inside, EveryEncoding, OnlyEncodings};
+ghost use Rattle.x86.specs.Octets.{Octets};
 ghost use Rattle.x86.specs.Decoded.{longAt, valueAt, displacementWidth, displacementAt, baseOf, indexOf, addressAt, modrmAt, formAt, rowAt, readAt, decodedAt};
 use crate::code::Code;
 use crate::forms::Form;
@@ -199,10 +200,17 @@ fn bounded<C: Code>(code: &C, at: u32) -> Option<Decoded>
         return None;
     }
     let length = (end - start) as u32;
-    Some(Decoded {
-        instruction,
-        length,
-    })
+    Some(Decoded { instruction, length })
+}
+
+// What a source means is a list of numbers; that they are bytes is known where they are read. The loop has no effect, and
+// compiles to nothing.
+fn octets<C: Code>(code: &C, from: usize, to: usize)
+    ensures { λ _. ⌜ Octets (bytes (now (code .entry))) from to ⌝ }
+{
+    for i in from..to {
+        let _byte = code.byte(i);
+    }
 }
 
 /// The instruction at an address and its length; none where no form matches, or the form runs past the end.
@@ -212,5 +220,7 @@ pub fn decode<C: Code>(code: &C, at: u32) -> Option<Decoded>
     ensures every { λ r. ⌜ EveryEncoding (bytes (now (code .entry))) at r ⌝ }
     ensures only { λ r. ⌜ OnlyEncodings (bytes (now (code .entry))) at r ⌝ }
 {
-    bounded(code, at)
+    let decoded = bounded(code, at)?;
+    octets(code, at as usize, at as usize + decoded.length as usize);
+    Some(decoded)
 }

@@ -1,0 +1,6 @@
+use Rattle.x86.specs.Octets.{Octets}
+use Rattle.x86.proofs.decoding.octets.Given as given
+
+-- what was read so far is bytes
+abbrev pub Inv-loop-i : given.InvT-loop-i
+Inv-loop-i g l = Octets (g .C·Code .bytes (l .code)) (l .from) (l .i)
