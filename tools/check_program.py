@@ -75,11 +75,12 @@ def main():
         status, answer = run([], f"module @{image}\nlist\n".encode())
         check("a module in a file", (status, answer.splitlines()[0], answer.splitlines()[-1]), (0, "module 32 bytes", "end 32"))
     check("a script that is not there", run(["/no/such/script"], b""), (1, ""))
-    for module in (b"90*65536", b"83e0e0ffe0*13107 90", b"81840801020304aabbccdd*5957"):
+    long = (b"90*65536", b"83e0e0ffe0*13107 90", b"81840801020304aabbccdd*5957")
+    for module in long:
         start = time.time()
         status, answer = run([], b"module " + module + b"\nlist\n")
         check("a long module", (status, answer.splitlines()[-1][:4], time.time() - start < 1), (0, "end ", True))
-    print(f"volga: {len(LINES)} lines and {3} long modules answered as they should")
+    print(f"volga: {len(LINES)} lines and {len(long)} long modules answered as they should")
 
 
 main()

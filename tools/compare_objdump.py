@@ -2,7 +2,7 @@
 """Compares our decoder and Intel syntax with GNU objdump's, over every first byte, every second byte, and behind each
 form that has a ModRM byte every SIB byte, with displacements and immediates of both signs.
 
-    rt check && tools/compare_objdump.py
+    rt check x86_vectors && tools/compare_objdump.py
 
 Ours has to answer class, length and text where docs/grammar.md has a form, and nothing where it has none; length and
 text have to be objdump's. A form's class and length are also compared with tools/grammar.py."""

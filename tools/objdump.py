@@ -10,7 +10,8 @@ LINE = re.compile(r"^\s*([0-9a-f]+):\t((?:[0-9a-f]{2} )+) *(?:\t(.*))?$")
 
 
 def disassemble(codes):
-    """For each byte string the (length, text) of the first instruction, from one run of objdump."""
+    """For each byte string the length and text of the first instruction, and the address that objdump saw it at, from one
+    run of objdump."""
     blob = b"".join(code + b"\x90" * (SLOT - len(code)) for code in codes)
     assert all(len(code) <= MOST for code in codes)
     with tempfile.NamedTemporaryFile() as file:

@@ -36,18 +36,19 @@ CASES = [
         "8b4000", "8b407f", "8b4080", "8b40ff", "8b8000000000", "8b80ffffff7f", "8b8000000080", "8b80ffffffff", "8b0500000000", "8b05ffffffff"]),
     ("the longest forms: eleven bytes", ["81840801020304aabbccdd", "c7840801020304aabbccdd", "81bc8d80ffffff80ffffff"]),
     ("cut off at each length", [
-        "81840801020304aabbccdd"[: 2 * length] for length in range(1, 11)] + ["0f", "0f85", "0f85010203", "e8", "e8010203", "b8", "b8010203", "80", "80c1", "8d", "8b05010203", "cd", "eb", "ff", "8e"]),
+        whole[: 2 * length] for whole in ("81840801020304aabbccdd", "c7042501020304aabbccdd"[:22], "0f8501020304", "e801020304", "b801020304", "0501020304", "80c17f", "8d4501", "8b0501020304", "8b042501020304", "cd80", "eb00", "7500", "ffe0", "8ed8")
+        for length in range(1, len(whole) // 2)]),
     ("no forms: prefixes, the other low bits, undefined and left out opcodes", [
         "6690", "f390", "f290", "f0830001", "06", "07", "0e", "16", "1e", "26", "27", "2f", "37", "3f", "60", "61", "6800000000", "82c001", "8600", "8c00", "8f00",
         "9a000000000000", "a100000000", "a800", "c0e001", "c20000", "c9", "cb", "cc", "d1e0", "e400", "e2fe", "ea000000000000", "f6c001", "f7e0", "fec0", "fb"]),
     ("no forms: 0F with another byte, an excluded mod or reg", [
-        "0f0b", "0f05", "0f7f00", "0f9000", "0fa2", "0faf00", "8ec8", "8ef0", "8ef8", "8e00", "8e18", "ff00", "ffc0", "ff10", "ff18", "ff20", "fff0", "ff30", "c60801", "c6c801", "c74001020304",
+        "0f0b", "0f05", "0f7f00", "0f9000", "0fa2", "0faf00", "8ec8", "8ef0", "8ef8", "8e00", "8e18", "ff00", "ffc0", "ff10", "ff18", "ff20", "fff0", "ff30", "c60801", "c6c801", "c7480102030405",
         "c7f801020304", "8dc0", "8dff"]),
 ]
 PAIRS = [
     ("pairs: jump and call through each register but ESP", [f"83{0xE0 + r:02x}e0ff{base + r:02x}" for base in (0xE0, 0xD0) for r in range(8) if r != 4]),
     ("no pairs: ESP, two registers, another mask, the mask in four bytes, a form between, cut off", [
-        "83e4e0ffe4", "83e4e0ffd4", "83e0e0ffe1", "83e1e0ffe0", "83e0f0ffe0", "81e0e0ffffffffe0", "83e0e090ffe0", "83e0e0ff", "83e0e0", "83e0e0ff20", "83c8e0ffe0", "25e0ffffffffe0"]),
+        "83e4e0ffe4", "83e4e0ffd4", "83e0e0ffe1", "83e1e0ffe0", "83e0f0ffe0", "81e0e0ffffffffe0", "83e0e090ffe0", "83e0e0ff", "83e0e0", "83e0", "83", "83e0e0ff20", "83c8e0ffe0", "25e0ffffffffe0"]),
 ]
 
 

@@ -7,6 +7,7 @@ use lib.Dec.{leb}
 use lib.ListN.{length}
 use Rattle.std.specs.declared.option.Option.{Option}
 use Rattle.std.specs.declared.option.Option.the-variants.{Some, None}
+use Rattle.listing.specs.declared.elements.Element.{Element}
 use Rattle.listing.specs.declared.lines.Line.{Line}
 use Rattle.listing.specs.declared.endings.Refusal.the-variants.{NoElement}
 use Rattle.listing.specs.declared.endings.Ending.{Ending}
@@ -19,6 +20,11 @@ abbrev pub Walks : List ℕ → ℕ → Option Line → ℕ → Type 0
 Walks bs p None q = (elementAt bs p ≡ None) × (q ≡ p)
 Walks bs p (Some l) q = Lists bs p (l .at) (l .element) (l .bytes .now) × (q ≡ min (p + lengthOf (l .element)) (2 ^ 32 - 1))
 
--- a listing that has come to p ends at the end of the bytes, or is refused there
-abbrev pub endingAt : List ℕ → ℕ → Ending
-endingAt bs p = cond (leb (length bs) p) (End (length bs)) (Refused (NoElement p))
+-- a listing goes on where an element stands, and is refused where none does
+abbrev pub stays : ℕ → Option Element → Option Ending
+stays p (Some e) = None
+stays p None = Some (Refused (NoElement p))
+
+-- a listing that has come to p ends after the last byte, or where no element stands
+abbrev pub endingAt : List ℕ → ℕ → Option Ending
+endingAt bs p = cond (leb (length bs) p) (Some (End (length bs))) (stays p (elementAt bs p))

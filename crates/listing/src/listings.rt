@@ -1,9 +1,11 @@
 //! A walk over a module, element by element.
 ghost use mathlib.Core.Path.{_≡_};
 ghost use Rattle.listing.specs.Listings.{Walks, endingAt};
+use crate::elements::Element;
 use crate::endings::Ending;
 use crate::endings::Refusal;
 use crate::lines::Line;
+use x86::code::SliceCode;
 
 /// A module with a place in it: the elements before the place have been handed out.
 #[derive(Drop)]
@@ -30,14 +32,16 @@ impl<'a> Listing<'a> {
         Some(line)
     }
 
-    /// How a listing ends that has come to the place and found no element there.
-    pub fn ending(&self) -> Ending
+    /// How a listing ends that has come to the place; none where an element stands there.
+    pub fn ending(&self) -> Option<Ending>
         ensures { λ r. ⌜ r ≡ endingAt (now (now (self .entry) .image)) (now (self .entry) .at) ⌝ }
     {
         if self.at as usize >= self.image.len() {
-            Ending::End(self.image.len())
-        } else {
-            Ending::Refused(Refusal::NoElement(self.at))
+            return Some(Ending::End(self.image.len()));
+        }
+        match Element::at(&self.image, self.at) {
+            Some(_) => None,
+            None => Some(Ending::Refused(Refusal::NoElement(self.at))),
         }
     }
 }

@@ -4,12 +4,12 @@ use mathlib.Core.List.{List, _++_}
 use lib.Chars.{codes}
 use Rattle.std.specs.Written.{decimal}
 use Rattle.script.specs.declared.problems.Problem.{Problem}
-use Rattle.script.specs.Explained.{wordsOf}
+use Rattle.script.specs.Explained.{explanation}
 
 -- a module of n bytes was taken
 abbrev pub takenText : ℕ → List ℕ
 takenText n = codes "module " ++ (decimal n ++ codes " bytes")
 
 -- a line could not be carried out
-abbrev pub unreadText : ℕ → Problem → List ℕ
-unreadText line why = codes "error line " ++ (decimal line ++ (codes ": " ++ wordsOf why))
+abbrev pub failureText : ℕ → Problem → List ℕ
+failureText line why = codes "error line " ++ (decimal line ++ (codes ": " ++ explanation why))

@@ -1,6 +1,6 @@
 //! Answers in words. The first words of each are fixed, so that tools can read them.
 ghost use Rattle.std.specs.declared.option.Option.the-variants.{Some};
-ghost use Rattle.script.specs.Answered.{takenText, unreadText};
+ghost use Rattle.script.specs.Answered.{takenText, failureText};
 use crate::problems::Problem;
 use crate::problems::ProblemDisplay;
 use std::fmt;
@@ -22,13 +22,13 @@ pub impl fmt::Display for Taken as TakenDisplay {
 
 /// A line, counted from 1, could not be carried out.
 #[derive(Clone, Copy)]
-pub struct Unread {
+pub struct Failure {
     pub line: u64,
     pub problem: Problem,
 }
 
-pub impl fmt::Display for Unread as UnreadDisplay {
-    ghost shown = { λ x. Some (unreadText (x .line) (x .problem)) };
+pub impl fmt::Display for Failure as FailureDisplay {
+    ghost shown = { λ x. Some (failureText (x .line) (x .problem)) };
 
     fn fmt<W: fmt::Write>(&self, f: &mut fmt::Formatter<W>) -> fmt::Result {
         let line = self.line;

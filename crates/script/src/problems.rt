@@ -1,13 +1,13 @@
 //! What can be wrong with a line, and the words for it.
 ghost use mathlib.Core.Path.{_≡_};
-ghost use Rattle.script.specs.Explained.{wordsOf};
+ghost use Rattle.script.specs.Explained.{explanation};
 ghost use Rattle.script.specs.declared.problems.Problem.the-variants.{OutOfMemory};
 ghost use Rattle.std.specs.declared.option.Option.the-variants.{Some};
 use std::alloc::AllocError;
 use std::alloc::Refused;
 use std::fmt;
 
-/// Why a line could not be read.
+/// Why a line could not be carried out.
 #[derive(Clone, Copy)]
 pub enum Problem {
     UnknownCommand,
@@ -28,7 +28,7 @@ pub enum Problem {
 impl Problem {
     /// The problem in words for people.
     pub fn words(self) -> &'static str
-        ensures { λ r. ⌜ now r ≡ wordsOf self ⌝ }
+        ensures { λ r. ⌜ now r ≡ explanation self ⌝ }
     {
         match self {
             Problem::UnknownCommand => "unknown command",
@@ -47,7 +47,7 @@ impl Problem {
 }
 
 pub impl fmt::Display for Problem as ProblemDisplay {
-    ghost shown = { λ p. Some (wordsOf p) };
+    ghost shown = { λ p. Some (explanation p) };
 
     fn fmt<W: fmt::Write>(&self, f: &mut fmt::Formatter<W>) -> fmt::Result {
         f.write_str(self.words())

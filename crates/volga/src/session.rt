@@ -2,10 +2,10 @@
 use listing::endings::EndingDisplay;
 use listing::lines::LineDisplay;
 use listing::listings::Listing;
+use script::answers::Failure;
+use script::answers::FailureDisplay;
 use script::answers::Taken;
 use script::answers::TakenDisplay;
-use script::answers::Unread;
-use script::answers::UnreadDisplay;
 use script::commands::Command;
 use script::commands::parse;
 use script::groups::LIMIT;
@@ -47,7 +47,10 @@ fn list(rt: &LibcRuntime, module: &[u8]) -> io::Result<()> {
         };
         println!(rt, "{line}")?;
     }
-    println!(rt, "{}", listing.ending())
+    match listing.ending() {
+        Some(ending) => println!(rt, "{ending}"),
+        None => Ok(()),
+    }
 }
 
 impl Session {
@@ -95,7 +98,7 @@ impl Session {
             Ok(()) => Ok(()),
             Err(problem) => {
                 self.well = false;
-                println!(rt, "{}", Unread { line, problem })
+                println!(rt, "{}", Failure { line, problem })
             }
         }
     }

@@ -106,8 +106,8 @@ address-by bs a z p m n true o l hm hn e h =
       is =
           subst (λ (n : ℕ). Addresses m n (addressBy bs p m n true .0) (fields (getD bs p 0 / 64) ((getD bs p 0 / 8) % 8) (getD bs p 0 % 8) ∷ s .part)) (sym (eqb-true n 4 e))
           (scaled m (getD bs p 0 / 64) ((getD bs p 0 / 8) % 8) (getD bs p 0 % 8) (baseOf m (getD bs p 0 % 8)) (indexOf (getD bs p 0 / 64) ((getD bs p 0 / 8) % 8) .register) (displacementWidth m (getD bs p 0 % 8))
-        (displacementAt (displacementWidth m (getD bs p 0 % 8)) bs (p + 1) .0) (s .part) (base-is m (getD bs p 0 % 8) hm (omega arith))
-        (index-is (getD bs p 0 / 64) ((getD bs p 0 / 8) % 8) (eqb ((getD bs p 0 / 8) % 8) 4) (omega arith) (omega arith) refl) (s .is));
+          (displacementAt (displacementWidth m (getD bs p 0 % 8)) bs (p + 1) .0) (s .part) (base-is m (getD bs p 0 % 8) hm (omega arith))
+          (index-is (getD bs p 0 / 64) ((getD bs p 0 / 8) % 8) (eqb ((getD bs p 0 / 8) % 8) 4) (omega arith) (omega arith) refl) (s .is));
       there = (by-fields (getD bs p 0), s .there);
       ends = omega (arith, s .ends);
     }

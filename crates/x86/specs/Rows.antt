@@ -1,4 +1,5 @@
--- The opcode map as a list of rows. A new opcode is a new row.
+-- The opcode map as a list of rows. A new opcode is a new row; where reg or mod decides (80 to 83, 8D, 8E, C6, C7, FF), the
+-- form's meaning has a line for each.
 use Prim.Native.Nat.{ℕ, _+_, _*_, _/_, _%_}
 use mathlib.Core.Bool.{Bool, true, false, cond, _&&_}
 use mathlib.Core.List.{List, [], _∷_}

@@ -200,7 +200,10 @@ fn bounded<C: Code>(code: &C, at: u32) -> Option<Decoded>
         return None;
     }
     let length = (end - start) as u32;
-    Some(Decoded { instruction, length })
+    Some(Decoded {
+        instruction,
+        length,
+    })
 }
 
 // What a source means is a list of numbers; that they are bytes is known where they are read. The loop has no effect, and

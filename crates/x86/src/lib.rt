@@ -5,6 +5,7 @@ pub mod decoding;
 pub mod forms;
 pub mod instructions;
 pub mod laws;
+mod meanings;
 pub mod operands;
 pub mod pairs;
 pub mod registers;

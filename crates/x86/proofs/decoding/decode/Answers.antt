@@ -19,10 +19,11 @@ returns g c =
       inside = c .in-Continue-decoded .ensures tt .inside;
       every = λ i e after s k. v ∙ every-encoding (g .C·Code .bytes (c .args .code .now)) (c .args .at) i e after s k;
       only =
-        λ d e.
-        let y : c .in-Continue-decoded .decoded ≡ d = cc in
-        subst (λ (d : Decoded). Encodes (d .instruction) (take (d .length) (drop (c .args .at) (g .C·Code .bytes (c .args .code .now))))) y
-        (only-encodings (g .C·Code .bytes (c .args .code .now)) (c .args .at) (c .in-Continue-decoded .decoded) (c .octets .ensures) (sym v)) }
+          λ d e.
+          let y : c .in-Continue-decoded .decoded ≡ d = cc in
+          subst (λ (d : Decoded). Encodes (d .instruction) (take (d .length) (drop (c .args .at) (g .C·Code .bytes (c .args .code .now))))) y
+          (only-encodings (g .C·Code .bytes (c .args .code .now)) (c .args .at) (c .in-Continue-decoded .decoded) (c .octets .ensures) (sym v));
+    }
 
 pub returns-in-Break-decoded : need.returns-in-Break-decoded
 returns-in-Break-decoded g c =
@@ -30,7 +31,8 @@ returns-in-Break-decoded g c =
     record {
       value = v;
       inside =
-        subst (λ (r : Option Decoded). Cases r (Unit {0}) (λ d. Inside (g .C·Code .bytes (c .args .code .now)) (c .args .at) (d .length)))
-        (sym (c .from-residual .ensures)) tt;
+          subst (λ (r : Option Decoded). Cases r (Unit {0}) (λ d. Inside (g .C·Code .bytes (c .args .code .now)) (c .args .at) (d .length)))
+          (sym (c .from-residual .ensures)) tt;
       every = λ i e after s k. v ∙ every-encoding (g .C·Code .bytes (c .args .code .now)) (c .args .at) i e after s k;
-      only = λ d e. let z : _≡_ {A = ℕ} 0 1 = cc (c .from-residual .ensures) in absurd (omega arith) }
+      only = λ d e. let z : _≡_ {A = ℕ} 0 1 = cc (c .from-residual .ensures) in absurd (omega arith);
+    }
