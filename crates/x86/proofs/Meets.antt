@@ -114,16 +114,16 @@ inside-stands bs p x d true e l h o f =
     subst (λ (d : Decoded). Encodes (d .instruction) (take (d .length) (drop p bs))) y
     (subst (λ (e : List ℕ). Encodes (x .0) e) (sym (ap (λ (n : ℕ). take n (drop p bs)) n ∙ holds-take bs (s .part) p (s .there))) (s .is))
 
-read-after : (bs : List ℕ) (p : ℕ) (x : Instruction × ℕ) (t : Bool) →
-    cond t (rowAt bs (p + 2) (lookUp twoByteRows (getD bs (p + 1) 0))) (rowAt bs (p + 1) (lookUp oneByteRows (getD bs p 0))) ≡ Some x → p ≤ x .1
-read-after bs p x true h = omega (arith, row-after bs (p + 2) (x .1) (lookUp twoByteRows (getD bs (p + 1) 0)) (x .0) h)
-read-after bs p x false h = omega (arith, row-after bs (p + 1) (x .1) (lookUp oneByteRows (getD bs p 0)) (x .0) h)
+pub read-past : (bs : List ℕ) (p : ℕ) (x : Instruction × ℕ) (t : Bool) →
+    cond t (rowAt bs (p + 2) (lookUp twoByteRows (getD bs (p + 1) 0))) (rowAt bs (p + 1) (lookUp oneByteRows (getD bs p 0))) ≡ Some x → p < x .1
+read-past bs p x true h = omega (arith, row-after bs (p + 2) (x .1) (lookUp twoByteRows (getD bs (p + 1) 0)) (x .0) h)
+read-past bs p x false h = omega (arith, row-after bs (p + 1) (x .1) (lookUp oneByteRows (getD bs p 0)) (x .0) h)
 
 read-only : (bs : List ℕ) (p : ℕ) (x : Option (Instruction × ℕ)) (d : Decoded) → Octets bs p (p + d .length) → readAt bs p ≡ x → within bs p x ≡ Some d →
     Encodes (d .instruction) (take (d .length) (drop p bs))
 read-only bs p None d o e h = let z : _≡_ {A = ℕ} 0 1 = cc in absurd (omega arith)
 read-only bs p (Some x) d o e h =
-    inside-stands bs p x d (leb (x .1) (length bs)) refl (read-after bs p x (eqb (getD bs p 0) 0x0F) e) h o (λ k. read-stands bs p (x .1) (x .0) (eqb (getD bs p 0) 0x0F) k refl e)
+    inside-stands bs p x d (leb (x .1) (length bs)) refl (omega (arith, read-past bs p x (eqb (getD bs p 0) 0x0F) e)) h o (λ k. read-stands bs p (x .1) (x .0) (eqb (getD bs p 0) 0x0F) k refl e)
 
 -- an answer whose bytes are bytes is an encoding
 pub only-encodings : (bs : List ℕ) (p : ℕ) (d : Decoded) → Octets bs p (p + d .length) → decodedAt bs p ≡ Some d → Encodes (d .instruction) (take (d .length) (drop p bs))
