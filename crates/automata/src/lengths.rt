@@ -1,20 +1,25 @@
-//! The three patterns.
+//! The three patterns at an address, each decided by its table; the grammar says the same.
 ghost use mathlib.Core.Path.{_≡_};
 ghost use Rattle.std.specs.Options.{Cases};
 ghost use Rattle.x86.specs.Laws.{Inside};
 ghost use Rattle.automata.specs.Lengths.{pairLength, straightLength, directLength, directTarget};
+use crate::patterns::DirectAutomaton;
+use crate::patterns::Directs;
+use crate::patterns::PairAutomaton;
+use crate::patterns::Pairs;
+use crate::patterns::StraightAutomaton;
+use crate::patterns::Straights;
+use crate::walks::walk;
 use x86::code::Code;
 use x86::decoding::decode;
-use x86::instructions::Instruction;
-use x86::pairs::recognise;
 
 /// The length of the pair at an address.
 pub fn pair_length<C: Code>(code: &C, at: u32) -> Option<u32>
     ensures value { λ r. ⌜ r ≡ pairLength (C·Code .bytes (now (code .entry))) at ⌝ }
     ensures inside { λ r. ⌜ Cases r (Unit {0}) (λ n. Inside (C·Code .bytes (now (code .entry))) at n) ⌝ }
 {
-    let _pair = recognise(code, at)?;
-    Some(5)
+    let length = walk(&Pairs, code, at as usize)?;
+    Some(length as u32)
 }
 
 /// The length of the straight form at an address.
@@ -22,11 +27,8 @@ pub fn straight_length<C: Code>(code: &C, at: u32) -> Option<u32>
     ensures value { λ r. ⌜ r ≡ straightLength (C·Code .bytes (now (code .entry))) at ⌝ }
     ensures inside { λ r. ⌜ Cases r (Unit {0}) (λ n. Inside (C·Code .bytes (now (code .entry))) at n) ⌝ }
 {
-    let decoded = decode(code, at)?;
-    match decoded.instruction {
-        Instruction::Straight(_) => Some(decoded.length),
-        _ => None,
-    }
+    let length = walk(&Straights, code, at as usize)?;
+    Some(length as u32)
 }
 
 /// The length of the direct form at an address.
@@ -34,11 +36,8 @@ pub fn direct_length<C: Code>(code: &C, at: u32) -> Option<u32>
     ensures value { λ r. ⌜ r ≡ directLength (C·Code .bytes (now (code .entry))) at ⌝ }
     ensures inside { λ r. ⌜ Cases r (Unit {0}) (λ n. Inside (C·Code .bytes (now (code .entry))) at n) ⌝ }
 {
-    let decoded = decode(code, at)?;
-    match decoded.instruction {
-        Instruction::Direct(_) => Some(decoded.length),
-        _ => None,
-    }
+    let length = walk(&Directs, code, at as usize)?;
+    Some(length as u32)
 }
 
 /// Where the direct form at an address goes to, modulo 2^32.

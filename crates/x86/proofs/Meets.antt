@@ -17,11 +17,11 @@ use Rattle.x86.specs.Decoded.{formAt, rowAt, readAt, within, decodedAt, instru
 use Rattle.x86.specs.Instructions.{classOf}
 use Rattle.x86.specs.Grammar.{Opens, one-byte, two-byte, Follows, Encodes, encoding, opcode, count}
 use Rattle.x86.specs.Octets.{Octets}
-use Rattle.x86.specs.Laws.{EveryEncoding}
+use Rattle.x86.specs.Laws.{Inside, EveryEncoding}
 use Rattle.x86.proofs.Bytes.{Holds, same-place, holds-end, holds-left, holds-right, holds-join, holds-from, holds-some, holds-take}
 use Rattle.x86.proofs.Complete.{chosen, passed-over, reads-form}
 use Rattle.x86.proofs.Table.{found-one, found-two, not-0F, looked-one, looked-two, Found}
-use Rattle.x86.proofs.Sound.{Stands, Between, form-stands, form-after}
+use Rattle.x86.proofs.Sound.{Stands, Between, form-stands, form-after, form-short}
 
 -- the opcode leads to its form
 reads-opcode : (bs : List ℕ) (p : ℕ) (f : Form) (n : ℕ) (os : List ℕ) → Opens f n os → Holds bs p os → readAt bs p ≡ formAt bs (p + length os) f n
@@ -128,3 +128,30 @@ read-only bs p (Some x) d o e h =
 -- an answer whose bytes are bytes is an encoding
 pub only-encodings : (bs : List ℕ) (p : ℕ) (d : Decoded) → Octets bs p (p + d .length) → decodedAt bs p ≡ Some d → Encodes (d .instruction) (take (d .length) (drop p bs))
 only-encodings bs p d o e = read-only bs p (readAt bs p) d o refl e
+
+row-short : (bs : List ℕ) (p q : ℕ) (x : Option (Form × ℕ)) (i : Instruction) → rowAt bs p x ≡ Some (i, q) → q ≤ p + 10
+row-short bs p q None i e = let z : _≡_ {A = ℕ} 0 1 = cc in absurd (omega arith)
+row-short bs p q (Some x) i e = form-short bs p (x .0) (x .1) i q e
+
+read-short : (bs : List ℕ) (p : ℕ) (x : Instruction × ℕ) (t : Bool) →
+    cond t (rowAt bs (p + 2) (lookUp twoByteRows (getD bs (p + 1) 0))) (rowAt bs (p + 1) (lookUp oneByteRows (getD bs p 0))) ≡ Some x → x .1 ≤ p + 12
+read-short bs p x true h = omega (arith, row-short bs (p + 2) (x .1) (lookUp twoByteRows (getD bs (p + 1) 0)) (x .0) h)
+read-short bs p x false h = omega (arith, row-short bs (p + 1) (x .1) (lookUp oneByteRows (getD bs p 0)) (x .0) h)
+
+inside-by : (bs : List ℕ) (p : ℕ) (x : Instruction × ℕ) (d : Decoded) (t : Bool) → leb (x .1) (length bs) ≡ t → p < x .1 → x .1 ≤ p + 12 →
+    cond t (Some (instructionOf (x .0) (x .1 - p))) None ≡ Some d → Inside bs p (d .length) × (d .length ≤ 12)
+inside-by bs p x d false e l s h = let z : _≡_ {A = ℕ} 0 1 = cc in absurd (omega arith)
+inside-by bs p x d true e l s h =
+    let y : instructionOf (x .0) (x .1 - p) ≡ d = cc in
+    let n : x .1 - p ≡ d .length = ap (λ (d : Decoded). d .length) y in
+    let k : x .1 ≤ length bs = leb-true (x .1) (length bs) e in
+    ((omega arith, omega arith), omega arith)
+
+inside-of : (bs : List ℕ) (p : ℕ) (x : Option (Instruction × ℕ)) (d : Decoded) → readAt bs p ≡ x → within bs p x ≡ Some d → Inside bs p (d .length) × (d .length ≤ 12)
+inside-of bs p None d e h = let z : _≡_ {A = ℕ} 0 1 = cc in absurd (omega arith)
+inside-of bs p (Some x) d e h =
+    inside-by bs p x d (leb (x .1) (length bs)) refl (read-past bs p x (eqb (getD bs p 0) 0x0F) e) (read-short bs p x (eqb (getD bs p 0) 0x0F) e) h
+
+-- an answer lies inside the bytes and is short
+pub decoded-inside : (bs : List ℕ) (p : ℕ) (d : Decoded) → decodedAt bs p ≡ Some d → Inside bs p (d .length) × (d .length ≤ 12)
+decoded-inside bs p d h = inside-of bs p (readAt bs p) d refl h

@@ -1,7 +1,7 @@
 -- What is read from a place on is what the bytes from there on begin with.
 use mathlib.Core.Path.{_≡_, refl, sym, _∙_, ap, subst}
 use mathlib.Core.Bool.{Bool, true, false, cond, not, _&&_}
-use mathlib.Core.List.{List}
+use mathlib.Core.List.{List, _∷_}
 use Prim.Native.Nat.{ℕ, _+_, _-_, _*_, _/_, _%_, _≤_}
 use native.Mathlib.Nat.{add-zero}
 use native.Mathlib.Omega.{arith}
@@ -142,7 +142,7 @@ module _ (bs : List ℕ) (p : ℕ) where
       ∙ ap (λ (x : Option (Instruction × ℕ)). cond (eqb (getD (drop p bs) 0 0) 0x0F) (further (rowAt (drop p bs) 2 (lookUp twoByteRows (getD (drop p bs) 1 0)))) x) (shift-row 1 (lookUp oneByteRows (getD (drop p bs) 0 0)))
       ∙ further-cond (eqb (getD (drop p bs) 0 0) 0x0F) (rowAt (drop p bs) 2 (lookUp twoByteRows (getD (drop p bs) 1 0))) (rowAt (drop p bs) 1 (lookUp oneByteRows (getD (drop p bs) 0 0)))
 
-same-test : (a b c d : ℕ) (s t : Bool) → leb a b ≡ s → leb c d ≡ t → (a ≤ b → c ≤ d) → (c ≤ d → a ≤ b) → s ≡ t
+pub same-test : (a b c d : ℕ) (s t : Bool) → leb a b ≡ s → leb c d ≡ t → (a ≤ b → c ≤ d) → (c ≤ d → a ≤ b) → s ≡ t
 same-test a b c d true true p q f g = refl
 same-test a b c d false false p q f g = refl
 same-test a b c d true false p q f g = let h = f (leb-true a b p) in absurd (omega (arith, leb-false c d q))
@@ -179,3 +179,8 @@ shift-pair bs p =
     by-bytes (leb (p + 5) (length bs)) (leb 5 (length (drop p bs))) (getD bs p 0) (getD bs (p + 1) 0) (getD bs (p + 2) 0) (getD bs (p + 3) 0) (getD bs (p + 4) 0)
     (getD (drop p bs) 0 0) (getD (drop p bs) 1 0) (getD (drop p bs) 2 0) (getD (drop p bs) 3 0) (getD (drop p bs) 4 0)
     (left-inside bs p 5 (omega arith)) (first-byte bs p) (shift-byte bs p 1) (shift-byte bs p 2) (shift-byte bs p 3) (shift-byte bs p 4)
+
+-- an operand behind one byte more
+pub modrm-next : (b : ℕ) (bs : List ℕ) → modrmAt (b ∷ bs) 1 ≡ modrm (modrmAt bs 0 .reg) (modrmAt bs 0 .operand) (1 + modrmAt bs 0 .end)
+unfolding later
+modrm-next b bs = shift-modrm (b ∷ bs) 1 0

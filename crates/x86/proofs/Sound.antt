@@ -203,3 +203,28 @@ form-after bs p (WithOperand f) n i q e =
     omega (arith, with-end (operandMeans f n (modrmAt bs p .reg) (modrmAt bs p .operand)) i (modrmAt bs p .end) q e .1, modrm-after bs p (leb 0xC0 (getD bs p 0)))
 form-after bs p (WithBoth f) n i q e =
     omega (arith, with-end (bothMeans f (modrmAt bs p .reg) (modrmAt bs p .operand) (valueAt (bothWidth f) bs (modrmAt bs p .end))) i (modrmAt bs p .end + widthBytes (bothWidth f)) q e .1, modrm-after bs p (leb 0xC0 (getD bs p 0)))
+
+-- nothing is long
+wide : (w : Width) → widthBytes w ≤ 4
+wide Byte = omega arith
+wide Long = omega arith
+
+displacement-short : (w : Option Width) (bs : List ℕ) (p : ℕ) → displacementAt w bs p .1 ≤ p + 4
+displacement-short None bs p = omega arith
+displacement-short (Some w) bs p = omega (arith, wide w)
+
+address-short : (bs : List ℕ) (p m n : ℕ) (t : Bool) → addressBy bs p m n t .1 ≤ p + 5
+address-short bs p m n true = omega (arith, displacement-short (displacementWidth m (getD bs p 0 % 8)) bs (p + 1))
+address-short bs p m n false = omega (arith, displacement-short (displacementWidth m n) bs p)
+
+modrm-short : (bs : List ℕ) (p : ℕ) (t : Bool) → modrmBy bs p t .end ≤ p + 6
+modrm-short bs p true = omega arith
+modrm-short bs p false = omega (arith, address-short bs (p + 1) (getD bs p 0 / 64) (getD bs p 0 % 8) (eqb (getD bs p 0 % 8) 4))
+
+pub form-short : (bs : List ℕ) (p : ℕ) (f : Form) (n : ℕ) (i : Instruction) (q : ℕ) → formAt bs p f n ≡ Some (i, q) → q ≤ p + 10
+form-short bs p (Alone f) n i q e = omega (arith, of-some (aloneMeans f n) i p q e .1)
+form-short bs p (WithImmediate f) n i q e = omega (arith, of-some (immediateMeans f n (valueAt (immediateWidth f) bs p)) i (p + widthBytes (immediateWidth f)) q e .1, wide (immediateWidth f))
+form-short bs p (WithOperand f) n i q e =
+    omega (arith, with-end (operandMeans f n (modrmAt bs p .reg) (modrmAt bs p .operand)) i (modrmAt bs p .end) q e .1, modrm-short bs p (leb 0xC0 (getD bs p 0)))
+form-short bs p (WithBoth f) n i q e =
+    omega (arith, with-end (bothMeans f (modrmAt bs p .reg) (modrmAt bs p .operand) (valueAt (bothWidth f) bs (modrmAt bs p .end))) i (modrmAt bs p .end + widthBytes (bothWidth f)) q e .1, modrm-short bs p (leb 0xC0 (getD bs p 0)), wide (bothWidth f))
