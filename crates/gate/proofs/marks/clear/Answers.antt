@@ -1,0 +1,8 @@
+use mathlib.Core.Path.{_≡_, ap, _∙_}
+use native.Mathlib.Omega.{arith}
+use lib.ListN.{set}
+use Rattle.std.proofs.shelf.Edits.{fill-more}
+use Rattle.gate.proofs.marks.clear.Needs as need
+
+pub loop-i-again : need.loop-i-again
+loop-i-again c = ap (λ xs. set xs (c .loop-i .i) 0) (c .loop-i .inv) ∙ fill-more (c .loop-i .i) 0 (c .args .buffer .now) (omega arith)

@@ -1,0 +1,9 @@
+pub mod Refusals
+pub mod Entries
+pub mod Elements
+pub mod Walks
+pub mod Bitmaps
+pub mod Verdicts
+pub mod Reading
+pub mod Passes
+pub mod Laws

@@ -1,0 +1,8 @@
+//! What holds of marks and verdicts by themselves.
+ghost use Rattle.gate.specs.Laws.{BitByBit, RoomAside};
+
+/// The laws of the gate. The call does nothing: its contract is the theorem.
+pub fn gate_stands()
+    ensures bits { λ _. ⌜ BitByBit ⌝ }
+    ensures room { λ _. ⌜ RoomAside ⌝ }
+{}
