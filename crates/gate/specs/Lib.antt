@@ -7,3 +7,4 @@ pub mod Verdicts
 pub mod Reading
 pub mod Passes
 pub mod Laws
+pub mod Policy
