@@ -1,13 +1,13 @@
 -- The verdict from its parts.
 use mathlib.Core.Path.{_≡_, refl, sym, ap, _∙_}
-use mathlib.Core.Bool.{Bool, true, false, cond, not, _&&_}
+use mathlib.Core.Bool.{Bool, true, false, not, _&&_}
 use mathlib.Core.List.{List, _++_}
-use Prim.Native.Nat.{ℕ, zero, suc, _+_, _*_, _/_, _%_, _≤_, _<_}
+use Prim.Native.Nat.{ℕ, _*_, _/_, _%_, _≤_}
 use native.Mathlib.Omega.{arith}
 use lib.Dec.{eqb, leb}
 use lib.ListN.{length, drop, replicate, length-replicate}
 use Rattle.std.proofs.shelf.Lists.{drop-at}
-use Rattle.std.proofs.shelf.Tests.{and-parts, and-from, leb-true, eqb-true, le-leb, cond-true, cond-false, true≢false, false≢true}
+use Rattle.std.proofs.shelf.Tests.{and-parts, leb-true, eqb-true, le-leb, true≢false, false≢true}
 use Rattle.std.specs.Options.{orOther}
 use Rattle.std.specs.Results.{isOk, isErr}
 use Rattle.std.specs.declared.option.Option.{Option}
@@ -18,7 +18,7 @@ use Rattle.gate.specs.declared.entries.EntryRow.{EntryRow}
 use Rattle.gate.specs.declared.refusals.Refusal.{Refusal}
 use Rattle.gate.specs.Bitmaps.{bitmap, bitAt}
 use Rattle.gate.specs.Entries.{rowFits}
-use Rattle.gate.specs.Verdicts.{lengthFits, first, wrongAt, misplaced, found, verdictOf, answer, unmarked, marksOf, marksAfter}
+use Rattle.gate.specs.Verdicts.{lengthFits, wrongAt, misplaced, found, verdictOf, answer, unmarked, marksOf, marksAfter}
 use Rattle.gate.specs.Walks.{isStart, isTarget, stopped}
 use Rattle.gate.proofs.Bits.{bit-at}
 use Rattle.gate.proofs.Firsts.{first-ext}

@@ -10,7 +10,6 @@ use lib.Bits.{bitAnd, and-block}
 use lib.Count.{trailingZeros}
 use lib.Dec.{eqb}
 use lib.ListN.{getD}
-use lib.Pow.{pow-pos}
 use Rattle.std.proofs.shelf.Tests.{eq-eqb, ne-eqb, eqb-true, cond-true, cond-false, cases-eq, false≢true}
 use Rattle.std.specs.Options.{orOther}
 use Rattle.std.specs.declared.option.Option.{Option}
@@ -78,13 +77,13 @@ bits-missing (suc n) t s =
 abbrev if : {A : Type 0} → Bool → A → Option A
 if b x = cond b (Some x) None
 
-lowest-step : (n : ℕ) (g : ℕ → Bool) (B : ℕ) (r : ℕ → Refusal) (o : Option Refusal) (v : Bool) → o ≡ cond (eqb B 0) None (Some (r (suc (trailingZeros n B)))) →
+lowest-step : (n B : ℕ) (r : ℕ → Refusal) (o : Option Refusal) (v : Bool) → o ≡ cond (eqb B 0) None (Some (r (suc (trailingZeros n B)))) →
     orOther (if v (r 0)) o ≡ cond (eqb (B * 2 + cond v 1 0) 0) None (Some (r (trailingZeros (suc n) (B * 2 + cond v 1 0))))
 unfolding trailingZeros
-lowest-step n g B r o true e =
+lowest-step n B r o true e =
     let m : (B * 2 + 1) % 2 ≡ 1 = omega arith in
     rw (ne-eqb (B * 2 + 1) 0 (λ e. omega arith), m) refl
-lowest-step n g B r o false e =
+lowest-step n B r o false e =
     let m : (B * 2 + 0) % 2 ≡ 0 = omega arith in
     let d : (B * 2 + 0) / 2 ≡ B = omega arith in
     let z : eqb (B * 2 + 0) 0 ≡ eqb B 0 = eqb-same (B * 2 + 0) 0 B 0 (λ e. omega arith) (λ e. omega arith) in
@@ -94,7 +93,7 @@ lowest-step n g B r o false e =
 pub lowest : (n : ℕ) (g : ℕ → Bool) (r : ℕ → Refusal) → first (λ j. if (g j) (r j)) n ≡ cond (eqb (bits g n) 0) None (Some (r (trailingZeros n (bits g n))))
 unfolding first bits
 lowest zero g r = refl
-lowest (suc n) g r = lowest-step n g (bits (λ j. g (suc j)) n) r _ (g 0) (lowest n (λ j. g (suc j)) (λ j. r (suc j)))
+lowest (suc n) g r = lowest-step n (bits (λ j. g (suc j)) n) r _ (g 0) (lowest n (λ j. g (suc j)) (λ j. r (suc j)))
 
 -- bit j of byte i
 at-byte : (buffer : List ℕ) (i j : ℕ) → j < 8 → bitAt buffer (8 * i + j) ≡ bitOf (getD buffer i 0) j

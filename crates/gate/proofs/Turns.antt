@@ -1,20 +1,18 @@
 -- The turns of the walk: what has been marked, and what is still to come.
 use mathlib.Core.Path.{_≡_, refl, sym, ap, _∙_}
-use mathlib.Core.Bool.{Bool, true, false, cond, _||_}
+use mathlib.Core.Bool.{Bool, true, false, _||_}
 use mathlib.Core.List.{List, _++_}
-use Prim.Native.Nat.{ℕ, zero, suc, _+_, _-_, _*_, _/_, _≤_, _<_}
+use Prim.Native.Nat.{ℕ, zero, suc, _+_, _-_, _*_, _≤_, _<_}
 use native.Mathlib.Omega.{arith}
-use lib.Dec.{eqb, ltb}
-use lib.ListN.{length, drop, replicate, length-replicate}
+use lib.Dec.{eqb}
+use lib.ListN.{length, drop}
 use Rattle.std.proofs.shelf.Lists.{drop-at}
-use Rattle.std.proofs.shelf.Tests.{eq-eqb, ne-eqb, lt-ltb, le-ltb, cond-true, cond-false}
+use Rattle.std.proofs.shelf.Tests.{ne-eqb, lt-ltb, le-ltb, cond-true, cond-false}
 use Rattle.std.specs.Options.{orOther}
-use Rattle.std.specs.declared.option.Option.{Option}
 use Rattle.std.specs.declared.option.Option.the-variants.{Some, None}
 use Rattle.x86.specs.Laws.{Inside}
 use Rattle.gate.specs.declared.elements.Kind.{Kind}
 use Rattle.gate.specs.declared.entries.EntryRow.{EntryRow}
-use Rattle.gate.specs.declared.refusals.Refusal.{Refusal}
 use Rattle.gate.specs.declared.refusals.Refusal.the-variants.{NoMatch, FarTarget}
 use Rattle.gate.specs.Bitmaps.{bitmap, marked}
 use Rattle.gate.specs.Elements.{takenAt, targetAt}

@@ -7,7 +7,7 @@ use Rattle.gate.specs.declared.entries.EntryRow.{EntryRow}
 -- at most 64 entries, behind an image of n bytes, on multiples of 32, and none reaches past 2^32
 abbrev pub rowFits : EntryRow → ℕ → Bool
 rowFits row n =
-    leb (row .count) 64 && (leb n (row .base) && (eqb (row .base % 32) 0 && leb (row .base + 32 * row .count) 4294967296))
+    leb (row .count) 64 && (leb n (row .base) && (eqb (row .base % 32) 0 && leb (row .base + 32 * row .count) (2 ^ 32)))
 
 -- an entry begins at the address t
 abbrev pub isEntry : EntryRow → ℕ → Bool

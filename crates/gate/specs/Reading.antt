@@ -9,7 +9,6 @@ use Rattle.std.specs.declared.option.Option.{Option}
 use Rattle.std.specs.declared.option.Option.the-variants.{Some, None}
 use Rattle.std.specs.declared.result.Result.{Result}
 use Rattle.std.specs.declared.result.Result.the-variants.{Ok, Err}
-use Rattle.gate.specs.declared.elements.Kind.{Kind}
 use Rattle.gate.specs.declared.readers.Element.{Element}
 use Rattle.gate.specs.declared.readers.Reader.{Reader}
 use Rattle.gate.specs.declared.refusals.Refusal.{Refusal}

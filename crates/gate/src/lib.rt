@@ -3,7 +3,7 @@
 pub mod elements;
 pub mod entries;
 pub mod laws;
-pub mod marks;
+mod marks;
 pub mod passes;
 pub mod readers;
 pub mod refusals;

@@ -1,4 +1,4 @@
-use mathlib.Core.Path.{_≡_, refl, sym, ap, _∙_}
+use mathlib.Core.Path.{sym, ap, _∙_}
 use Rattle.gate.specs.Verdicts.{answer}
 use Rattle.gate.proofs.Judging.{size-of, verdict-is, left-refused, left-passed}
 use Rattle.gate.proofs.verdicts.judge.Needs as need
