@@ -1,5 +1,8 @@
 -- The number and the address of a refusal, and the refusal in an answer.
 use Prim.Native.Nat.{ℕ}
+use mathlib.Core.List.{List, _++_}
+use lib.Chars.{codes}
+use Rattle.std.specs.Written.{decimal}
 use Rattle.std.specs.declared.option.Option.{Option}
 use Rattle.std.specs.declared.option.Option.the-variants.{Some, None}
 use Rattle.std.specs.declared.result.Result.{Result}
@@ -32,3 +35,8 @@ addressOf (MidTarget a) = Some a
 abbrev pub refusalIn : {P : Type 0} → Result P Refused → Option Refusal
 refusalIn (Ok p) = None
 refusalIn (Err e) = Some (e .refusal)
+
+-- a refusal in words, by its number and its address
+abbrev pub refusalText : ℕ → Option ℕ → List ℕ
+refusalText n None = codes "refused " ++ decimal n
+refusalText n (Some a) = codes "refused " ++ (decimal n ++ (codes " at " ++ decimal a))

@@ -1,6 +1,9 @@
 //! Why an image is refused.
 ghost use mathlib.Core.Path.{_≡_};
 ghost use Rattle.gate.specs.Refusals.{numberOf, addressOf};
+ghost use Rattle.std.specs.declared.option.Option.the-variants.{Some};
+ghost use Rattle.gate.specs.Refusals.{refusalText};
+use std::fmt;
 
 #[derive(Clone, Copy)]
 pub enum Refusal {
@@ -46,6 +49,18 @@ impl Refusal {
             Refusal::FarTarget(at) => Some(at),
             Refusal::Unaligned(at) => Some(at),
             Refusal::MidTarget(at) => Some(at),
+        }
+    }
+}
+
+pub impl fmt::Display for Refusal as RefusalDisplay {
+    ghost shown = { λ x. Some (refusalText (numberOf x) (addressOf x)) };
+
+    fn fmt<W: fmt::Write>(&self, f: &mut fmt::Formatter<W>) -> fmt::Result {
+        let number = self.number();
+        match self.address() {
+            Some(at) => write!(f, "refused {number} at {at}"),
+            None => write!(f, "refused {number}"),
         }
     }
 }

@@ -1,4 +1,1 @@
-pub mod Elements
 pub mod Lines
-pub mod Endings
-pub mod Listings

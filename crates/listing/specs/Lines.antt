@@ -1,35 +1,39 @@
 -- The lines of a listing, as text.
 use Prim.Native.Nat.{ℕ}
-use mathlib.Core.List.{List, _++_}
-use mathlib.Core.Path.{_≡_}
+use mathlib.Core.List.{List, [], _++_}
 use lib.Chars.{codes}
-use lib.ListN.{take, drop}
 use Rattle.std.specs.Written.{decimal}
-use Rattle.std.specs.declared.option.Option.the-variants.{Some}
-use Rattle.listing.specs.Elements.{elementAt, lengthOf}
+use Rattle.std.specs.declared.option.Option.{Option}
+use Rattle.std.specs.declared.option.Option.the-variants.{Some, None}
+use Rattle.x86.specs.declared.instructions.Decoded.{Decoded}
+use Rattle.x86.specs.declared.pairs.Pair.{Pair as MaskedPair}
+use Rattle.x86.specs.Decoded.{decodedAt}
+use Rattle.x86.specs.Pairs.{pairAt}
 use Rattle.syntax.specs.Instructions.{decodedText, pairText}
 use Rattle.script.specs.Spelled.{spelling}
-use Rattle.listing.specs.declared.elements.Element.{Element}
-use Rattle.listing.specs.declared.elements.Element.the-variants.{Pair, Straight, Direct}
+use Rattle.gate.specs.declared.elements.Kind.{Kind}
+use Rattle.gate.specs.declared.elements.Kind.the-variants.{Pair, Straight, Direct}
 
--- the word for an element's kind
-abbrev pub kindOf : Element → List ℕ
-kindOf (Pair x) = codes "pair"
-kindOf (Straight d) = codes "straight"
-kindOf (Direct d) = codes "direct"
+-- the word for a kind
+abbrev pub kindWord : Kind → List ℕ
+kindWord Pair = codes "pair"
+kindWord Straight = codes "straight"
+kindWord Direct = codes "direct"
 
--- an element at p in Intel syntax
-abbrev pub elementText : ℕ → Element → List ℕ
-elementText p (Pair x) = pairText x
-elementText p (Straight d) = decodedText p d
-elementText p (Direct d) = decodedText p d
+abbrev pub pairWords : Option MaskedPair → List ℕ
+pairWords None = []
+pairWords (Some x) = pairText x
+
+abbrev pub formWords : ℕ → Option Decoded → List ℕ
+formWords p None = []
+formWords p (Some d) = decodedText p d
+
+-- the bytes of an element at p in Intel syntax
+abbrev pub wording : Kind → ℕ → List ℕ → List ℕ
+wording Pair p bs = pairWords (pairAt bs 0)
+wording Straight p bs = formWords p (decodedAt bs 0)
+wording Direct p bs = formWords p (decodedAt bs 0)
 
 -- address, kind and bytes, and then the instruction
-abbrev pub lineText : ℕ → Element → List ℕ → List ℕ
-lineText p e bs = decimal p ++ (codes " " ++ (kindOf e ++ (codes " " ++ (spelling bs ++ (codes ": " ++ elementText p e)))))
-
--- a line at q has the element that stands at p, and its bytes
-pub record Lists (code : List ℕ) (p q : ℕ) (e : Element) (bs : List ℕ) : Type 0 where
-  pub place : q ≡ p
-  pub element : elementAt code p ≡ Some e
-  pub bytes : bs ≡ take (lengthOf e) (drop p code)
+abbrev pub lineText : Kind → ℕ → List ℕ → List ℕ
+lineText k p bs = decimal p ++ (codes " " ++ (kindWord k ++ (codes " " ++ (spelling bs ++ (codes ": " ++ wording k p bs)))))

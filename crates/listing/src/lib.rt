@@ -1,5 +1,2 @@
-//! The elements of a module, the lines that list them, and how a listing ends.
-pub mod elements;
-pub mod endings;
+//! The lines that list a module.
 pub mod lines;
-pub mod listings;

@@ -1,84 +1,73 @@
-//! The lines of a listing.
+//! The line of an element: where it stands, what it is, its bytes, and the instruction in Intel syntax.
 ghost use mathlib.Core.Path.{_≡_};
-ghost use Rattle.std.specs.Options.{Cases};
-ghost use Rattle.std.specs.declared.option.Option.the-variants.{Some, None};
-ghost use Rattle.listing.specs.Elements.{elementAt};
-ghost use Rattle.listing.specs.Lines.{kindOf, elementText, lineText, Lists};
-use crate::elements::Element;
+ghost use Rattle.std.specs.declared.option.Option.the-variants.{Some};
+ghost use Rattle.listing.specs.Lines.{kindWord, wording, lineText};
+use gate::elements::Kind;
+use gate::readers::Element;
 use script::spelling::Spelled;
 use script::spelling::SpelledDisplay;
 use std::fmt;
+use std::fmt::Display;
 use syntax::Intel;
 use syntax::instructions::PairDisplay;
 use syntax::instructions::Shown;
 use syntax::instructions::ShownDisplay;
 use x86::code::SliceCode;
+use x86::decoding::decode;
+use x86::pairs::recognise;
 
-impl Element {
-    /// The word for its kind.
-    pub fn kind(self) -> &'static str
-        ensures { λ r. ⌜ now r ≡ kindOf self ⌝ }
-    {
-        match self {
-            Element::Pair(_) => "pair",
-            Element::Straight(_) => "straight",
-            Element::Direct(_) => "direct",
-        }
+fn kind_word(kind: Kind) -> &'static str
+    ensures { λ r. ⌜ now r ≡ kindWord kind ⌝ }
+{
+    match kind {
+        Kind::Pair => "pair",
+        Kind::Straight => "straight",
+        Kind::Direct => "direct",
     }
 }
 
-/// An element at an address, in Intel syntax.
+/// The bytes of an element at an address, as instructions.
 #[derive(Clone, Copy)]
-struct Worded {
+struct Worded<'a> {
+    kind: Kind,
     at: u32,
-    element: Element,
+    bytes: &'a [u8],
 }
 
-impl fmt::Display for Worded as WordedDisplay {
-    ghost shown = { λ x. Some (elementText (x .at) (x .element)) };
+impl fmt::Display for Worded<'_> as WordedDisplay {
+    ghost shown = { λ x. Some (wording (x .kind) (x .at) (x .bytes .now)) };
 
     fn fmt<W: fmt::Write>(&self, f: &mut fmt::Formatter<W>) -> fmt::Result {
+        let bytes = self.bytes;
         let at = self.at;
-        match self.element {
-            Element::Pair(pair) => write!(f, "{}", Intel(pair)),
-            Element::Straight(decoded) => write!(f, "{}", Shown { at, decoded }),
-            Element::Direct(decoded) => write!(f, "{}", Shown { at, decoded }),
+        match self.kind {
+            Kind::Pair => match recognise(&bytes, 0) {
+                Some(pair) => Intel(pair).fmt(f),
+                None => f.write_str(""),
+            },
+            Kind::Straight | Kind::Direct => match decode(&bytes, 0) {
+                Some(decoded) => Shown { at, decoded }.fmt(f),
+                None => f.write_str(""),
+            },
         }
     }
 }
 
-/// An element with its address and its bytes, which are a part of the module.
+/// An element of a module as a line.
 #[derive(Clone, Copy)]
-pub struct Line<'a> {
-    pub at: u32,
-    pub element: Element,
-    pub bytes: &'a [u8],
-}
+pub struct Line<'a>(pub Element<'a>);
 
 pub impl fmt::Display for Line<'_> as LineDisplay {
-    ghost shown = { λ x. Some (lineText (x .at) (x .element) (x .bytes .now)) };
+    ghost shown = { λ x. Some (lineText (x .0 .kind) (x .0 .at) (x .0 .bytes .now)) };
 
     fn fmt<W: fmt::Write>(&self, f: &mut fmt::Formatter<W>) -> fmt::Result {
-        let at = self.at;
-        let element = self.element;
+        let Element { kind, at, bytes } = self.0;
         write!(
             f,
             "{at} {} {}: {}",
-            element.kind(),
-            Spelled(self.bytes),
-            Worded { at, element }
+            kind_word(kind),
+            Spelled(bytes),
+            Worded { kind, at, bytes }
         )
-    }
-}
-
-impl<'a> Line<'a> {
-    /// The line of the element at an address of a module; none where none stands, or past the end.
-    pub fn of(image: &'a [u8], at: u32) -> Option<Line<'a>>
-        ensures { λ r. ⌜ Cases r (elementAt (now (image .entry)) at ≡ None) (λ l. Lists (now (image .entry)) at (l .at) (l .element) (now (l .bytes))) ⌝ }
-    {
-        let element = Element::at(&image, at)?;
-        let start = at as usize;
-        let bytes = &image[start..start + element.length() as usize];
-        Some(Line { at, element, bytes })
     }
 }

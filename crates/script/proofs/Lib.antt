@@ -9,3 +9,4 @@ pub mod Spellings
 pub mod Splits
 pub mod Texts
 pub mod Unread
+pub mod Numbered

@@ -10,6 +10,10 @@ use Rattle.script.specs.Explained.{explanation}
 abbrev pub takenText : ℕ → List ℕ
 takenText n = codes "module " ++ (decimal n ++ codes " bytes")
 
+-- the entry row from now on
+abbrev pub rowedText : ℕ → ℕ → List ℕ
+rowedText base count = codes "row " ++ (decimal base ++ (codes " " ++ decimal count))
+
 -- a line could not be carried out
 abbrev pub failureText : ℕ → Problem → List ℕ
 failureText line why = codes "error line " ++ (decimal line ++ (codes ": " ++ explanation why))

@@ -1,6 +1,6 @@
 //! Answers in words. The first words of each are fixed, so that tools can read them.
 ghost use Rattle.std.specs.declared.option.Option.the-variants.{Some};
-ghost use Rattle.script.specs.Answered.{takenText, failureText};
+ghost use Rattle.script.specs.Answered.{takenText, rowedText, failureText};
 use crate::problems::Problem;
 use crate::problems::ProblemDisplay;
 use std::fmt;
@@ -17,6 +17,23 @@ pub impl fmt::Display for Taken as TakenDisplay {
     fn fmt<W: fmt::Write>(&self, f: &mut fmt::Formatter<W>) -> fmt::Result {
         let length = self.length;
         write!(f, "module {length} bytes")
+    }
+}
+
+/// The entry row from now on.
+#[derive(Clone, Copy)]
+pub struct Rowed {
+    pub base: u32,
+    pub count: u32,
+}
+
+pub impl fmt::Display for Rowed as RowedDisplay {
+    ghost shown = { λ x. Some (rowedText (x .base) (x .count)) };
+
+    fn fmt<W: fmt::Write>(&self, f: &mut fmt::Formatter<W>) -> fmt::Result {
+        let base = self.base;
+        let count = self.count;
+        write!(f, "row {base} {count}")
     }
 }
 

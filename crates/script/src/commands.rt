@@ -2,8 +2,10 @@
 ghost use mathlib.Core.Path.{_≡_};
 ghost use Rattle.std.specs.shelf.Text.{sameBytes};
 ghost use Rattle.script.specs.Outcomes.{Answers};
-ghost use Rattle.script.specs.Commands.{requestOf, aloneOf, pathOf, moduleOf, namedOf, commandOf, CommentUnread, BlankUnread};
+ghost use Rattle.script.specs.Words.{firstWord, afterWord};
+ghost use Rattle.script.specs.Commands.{requestOf, aloneOf, pathOf, moduleOf, numberIn, twoNumbers, rowOf, gateOf, namedOf, commandOf, CommentUnread, BlankUnread};
 use crate::groups::bytes;
+use crate::numbers::number;
 use crate::parts::content;
 use crate::problems::Problem;
 use crate::words::Words;
@@ -20,6 +22,14 @@ pub enum Command<'a> {
     ModuleFile(&'a [u8]),
     /// The elements of the module.
     List,
+    /// The entry row from now on: base and count.
+    Row(u32, u32),
+    /// The verdict on the module, with the marks buffers that the program keeps.
+    Gate,
+    /// The same with fresh marks buffers of these sizes.
+    GateFresh(u32, u32),
+    /// The marks that the last verdict left.
+    Marks,
 }
 
 // The path of a file, which is all that is left of the line.
@@ -54,6 +64,47 @@ fn alone<'a>(command: Command<'a>, rest: &[u8]) -> Result<Command<'a>, Problem>
     }
 }
 
+fn next_number(words: &mut Words<'_>) -> Result<u32, Problem>
+    ensures value { λ r. ⌜ r ≡ numberIn (firstWord (now (now (words .entry) .left))) ⌝ }
+    ensures after { λ _. ⌜ now (now (words .exit) .left) ≡ afterWord (now (now (words .entry) .left)) ⌝ }
+{
+    match words.next() {
+        Some(word) => number(word),
+        None => Err(Problem::NoNumber),
+    }
+}
+
+// Two numbers and nothing more.
+fn two_numbers(text: &[u8]) -> Result<(u32, u32), Problem>
+    ensures { λ r. ⌜ r ≡ twoNumbers (now (text .entry)) ⌝ }
+{
+    let mut words = Words::new(text);
+    let first = next_number(&mut words)?;
+    let second = next_number(&mut words)?;
+    if words.rest().is_empty() {
+        Ok((first, second))
+    } else {
+        Err(Problem::TooManyWords)
+    }
+}
+
+fn row(rest: &[u8]) -> Result<Command<'_>, Problem>
+    ensures { λ r. ⌜ Answers requestOf (rowOf (now (rest .entry))) r ⌝ }
+{
+    let (base, count) = two_numbers(rest)?;
+    Ok(Command::Row(base, count))
+}
+
+fn gate(rest: &[u8]) -> Result<Command<'_>, Problem>
+    ensures { λ r. ⌜ Answers requestOf (gateOf (now (rest .entry))) r ⌝ }
+{
+    if rest.is_empty() {
+        return Ok(Command::Gate);
+    }
+    let (starts, targets) = two_numbers(rest)?;
+    Ok(Command::GateFresh(starts, targets))
+}
+
 fn is(word: &[u8], name: &[u8]) -> bool
     ensures { λ r. ⌜ r ≡ sameBytes (now (word .entry)) (now (name .entry)) ⌝ }
 {
@@ -68,6 +119,12 @@ fn named<'a>(heap: Global, name: &[u8], rest: &'a [u8]) -> Result<Command<'a>, P
         module(heap, rest)
     } else if is(name, b"list") {
         alone(Command::List, rest)
+    } else if is(name, b"row") {
+        row(rest)
+    } else if is(name, b"gate") {
+        gate(rest)
+    } else if is(name, b"marks") {
+        alone(Command::Marks, rest)
     } else {
         Err(Problem::UnknownCommand)
     }

@@ -23,6 +23,10 @@ pub enum Problem {
     NoFile,
     /// The command needs a module, and none was taken yet.
     NoModule,
+    /// The command needs a verdict, and none was given yet.
+    NoVerdict,
+    /// A marks buffer is too large for this program.
+    TooManyMarks,
 }
 
 impl Problem {
@@ -42,6 +46,8 @@ impl Problem {
             Problem::OutOfMemory => "out of memory",
             Problem::NoFile => "the file cannot be read",
             Problem::NoModule => "no module was taken yet",
+            Problem::NoVerdict => "no module was judged yet",
+            Problem::TooManyMarks => "a marks buffer has at most 1048576 bytes",
         }
     }
 }

@@ -1,5 +1,7 @@
 //! The program: reads a script from the file that its first argument names or from standard input, carries out each line,
 //! and prints what came of it. What matters is in the libraries below.
+mod files;
+mod marks;
 mod session;
 
 use session::Session;
@@ -13,7 +15,9 @@ use std::io::Read;
 // Nothing says that an input ends, so the lines are counted.
 fn run<R: Read + Drop>(rt: &LibcRuntime, input: R) -> Result<bool, AnyError> {
     let mut reader = BufReader::new(input);
-    let mut session = Session::new();
+    let Ok(mut session) = Session::new(rt.alloc()) else {
+        return Err("out of memory".into());
+    };
     for number in 1..u64::MAX {
         let mut line = Vec::new(rt.alloc());
         if reader.read_until(b'\n', &mut line)? == 0 {

@@ -31,3 +31,9 @@ returns-in-NoFile c = ap explanation (sym (c .in-NoFile .is))
 
 pub returns-in-NoModule : need.returns-in-NoModule
 returns-in-NoModule c = ap explanation (sym (c .in-NoModule .is))
+
+pub returns-in-NoVerdict : need.returns-in-NoVerdict
+returns-in-NoVerdict c = ap explanation (sym (c .in-NoVerdict .is))
+
+pub returns-in-TooManyMarks : need.returns-in-TooManyMarks
+returns-in-TooManyMarks c = ap explanation (sym (c .in-TooManyMarks .is))
