@@ -5,3 +5,6 @@ pub mod Taken
 pub mod Turns
 pub mod Late
 pub mod Judging
+pub mod Obeys
+pub mod Admits
+pub mod Exactly

@@ -22,29 +22,29 @@ use Rattle.gate.specs.Walks.{ifTaken, someTaken, isStart, isTarget, equals, fa
 use Rattle.gate.proofs.Bits.{bitmap-ext, bitmap-none, mark-bitmap, length-bitmap}
 
 -- over an element
-someTaken-on : (f g : ℕ) (bs : List ℕ) (m : ℕ → Bool) (p : ℕ) (x : Kind × ℕ) → f ≡ suc g → p < length bs → takenAt bs p ≡ Some x →
+pub someTaken-on : (f g : ℕ) (bs : List ℕ) (m : ℕ → Bool) (p : ℕ) (x : Kind × ℕ) → f ≡ suc g → p < length bs → takenAt bs p ≡ Some x →
     someTaken f bs m p ≡ (m p || someTaken g bs m (p + x .1))
 unfolding someTaken
 someTaken-on f g bs m p x e h t = rw e (cond-true _ _ _ (lt-ltb p (length bs) h) ∙ ap (λ o. ifTaken o false (λ n. m p || someTaken g bs m (p + n))) t)
 
-someTaken-ends : (f : ℕ) (bs : List ℕ) (m : ℕ → Bool) (p : ℕ) → length bs ≤ p → someTaken f bs m p ≡ false
+pub someTaken-ends : (f : ℕ) (bs : List ℕ) (m : ℕ → Bool) (p : ℕ) → length bs ≤ p → someTaken f bs m p ≡ false
 unfolding someTaken
 someTaken-ends zero bs m p h = refl
 someTaken-ends (suc f) bs m p h = cond-false _ _ _ (le-ltb p (length bs) h)
 
-stop-on : (f g : ℕ) (bs : List ℕ) (row : EntryRow) (p : ℕ) (x : Kind × ℕ) → f ≡ suc g → p < length bs → takenAt bs p ≡ Some x →
+pub stop-on : (f g : ℕ) (bs : List ℕ) (row : EntryRow) (p : ℕ) (x : Kind × ℕ) → f ≡ suc g → p < length bs → takenAt bs p ≡ Some x →
     stopFrom f bs row p ≡ orOther (farFrom (length bs) row p (targetAt bs p)) (stopFrom g bs row (p + x .1))
 unfolding stopFrom
 stop-on f g bs row p x e h t =
     rw e (cond-true _ _ _ (lt-ltb p (length bs) h) ∙ ap (λ o. ifTaken o (Some (NoMatch p)) (λ n. orOther (farFrom (length bs) row p (targetAt bs p)) (stopFrom g bs row (p + n)))) t)
 
-stop-none : (f g : ℕ) (bs : List ℕ) (row : EntryRow) (p : ℕ) → f ≡ suc g → p < length bs → takenAt bs p ≡ None →
+pub stop-none : (f g : ℕ) (bs : List ℕ) (row : EntryRow) (p : ℕ) → f ≡ suc g → p < length bs → takenAt bs p ≡ None →
     stopFrom f bs row p ≡ Some (NoMatch p)
 unfolding stopFrom
 stop-none f g bs row p e h t =
     rw e (cond-true _ _ _ (lt-ltb p (length bs) h) ∙ ap (λ o. ifTaken o (Some (NoMatch p)) (λ n. orOther (farFrom (length bs) row p (targetAt bs p)) (stopFrom g bs row (p + n)))) t)
 
-stop-ends : (f : ℕ) (bs : List ℕ) (row : EntryRow) (p : ℕ) → length bs ≤ p → stopFrom f bs row p ≡ None
+pub stop-ends : (f : ℕ) (bs : List ℕ) (row : EntryRow) (p : ℕ) → length bs ≤ p → stopFrom f bs row p ≡ None
 unfolding stopFrom
 stop-ends zero bs row p h = refl
 stop-ends (suc f) bs row p h = cond-false _ _ _ (le-ltb p (length bs) h)

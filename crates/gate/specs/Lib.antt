@@ -8,3 +8,4 @@ pub mod Reading
 pub mod Passes
 pub mod Laws
 pub mod Policy
+pub mod Exact

@@ -5,6 +5,7 @@ ghost use lib.ListN.{length, drop};
 ghost use Rattle.std.specs.Results.{isOk};
 ghost use mathlib.Core.Bool.{true};
 ghost use Rattle.gate.specs.Walks.{isStart, isTarget, stopped};
+ghost use Rattle.gate.specs.Exact.{ExactlyPolicy};
 ghost use Rattle.gate.specs.Verdicts.{answer, found, marksOf, lengthFits, startsAfter, targetsAfter, unmarked, verdictOf};
 use crate::entries::EntryRow;
 use crate::marks::clear;
@@ -16,6 +17,7 @@ use automata::lengths::direct_target;
 use automata::lengths::pair_length;
 use automata::lengths::straight_length;
 use x86::code::Code;
+use x86::code::octets;
 
 /// Whether an image may have `n` bytes.
 pub fn length_fits(n: usize) -> bool
@@ -85,8 +87,8 @@ fn examine<C: Code>(
     compare(starts, targets, bytes)
 }
 
-/// Judges an image, and leaves the marks of one that passes.
-pub fn judge<C: Code>(
+// The checks in their order.
+fn checked<C: Code>(
     code: &C,
     row: EntryRow,
     starts: &mut [u8],
@@ -114,4 +116,20 @@ pub fn judge<C: Code>(
         clear(targets, count);
     }
     verdict
+}
+
+/// Judges an image, and leaves the marks of one that passes.
+pub fn judge<C: Code>(
+    code: &C,
+    row: EntryRow,
+    starts: &mut [u8],
+    targets: &mut [u8],
+) -> Result<(), Refusal>
+    ensures value { λ r. ⌜ r ≡ answer (verdictOf (C·Code .bytes (now (code .entry))) row (length (now (starts .entry))) (length (now (targets .entry)))) ⌝ }
+    ensures starts { λ _. ⌜ now (starts .exit) ≡ startsAfter (C·Code .bytes (now (code .entry))) row (now (starts .entry)) (now (targets .entry)) ⌝ }
+    ensures targets { λ _. ⌜ now (targets .exit) ≡ targetsAfter (C·Code .bytes (now (code .entry))) row (now (starts .entry)) (now (targets .entry)) ⌝ }
+    ensures policy { λ r. ⌜ ExactlyPolicy (C·Code .bytes (now (code .entry))) row (length (now (starts .entry))) (length (now (targets .entry))) r ⌝ }
+{
+    octets(code, 0, code.len());
+    checked(code, row, starts, targets)
 }

@@ -4,6 +4,7 @@ ghost use mathlib.Core.List.{List};
 ghost use Prim.Native.Nat.{ℕ};
 ghost use lib.ListN.{length, getD};
 ghost use Rattle.std.specs.Of.Vec.{vec-items};
+ghost use Rattle.x86.specs.Octets.{Octets};
 
 /// Bytes that can be read and do not change while they are held.
 pub trait Code {
@@ -40,5 +41,15 @@ pub impl Code for &[u8] as SliceCode {
     fn byte(&self, i: usize) -> u8 {
         let s: &[u8] = *self;
         if i < s.len() { s[i] } else { 0 }
+    }
+}
+
+/// That the numbers that a source means are bytes is known where they are read, and nowhere else. So this reads them, and
+/// its contract is the fact; the loop has no effect, and compiles to nothing.
+pub fn octets<C: Code>(code: &C, from: usize, to: usize)
+    ensures { λ _. ⌜ Octets (bytes (now (code .entry))) from to ⌝ }
+{
+    for i in from..to {
+        let _byte = code.byte(i);
     }
 }

@@ -3,9 +3,9 @@ ghost use mathlib.Core.Path.{_≡_};
 ghost use Prim.Native.Nat.{_+_, _*_, _<_, _≤_, _^_};
 ghost use Rattle.std.specs.Options.{Cases};
 ghost use Rattle.x86.specs.Laws.{Inside, EveryEncoding, OnlyEncodings};
-ghost use Rattle.x86.specs.Octets.{Octets};
 ghost use Rattle.x86.specs.Decoded.{longAt, valueAt, displacementWidth, displacementAt, baseOf, indexOf, addressAt, modrmAt, formAt, rowAt, readAt, decodedAt};
 use crate::code::Code;
+use crate::code::octets;
 use crate::forms::Form;
 use crate::instructions::Decoded;
 use crate::instructions::Instruction;
@@ -204,16 +204,6 @@ fn bounded<C: Code>(code: &C, at: u32) -> Option<Decoded>
         instruction,
         length,
     })
-}
-
-// What a source means is a list of numbers; that they are bytes is known where they are read. The loop has no effect, and
-// compiles to nothing.
-fn octets<C: Code>(code: &C, from: usize, to: usize)
-    ensures { λ _. ⌜ Octets (bytes (now (code .entry))) from to ⌝ }
-{
-    for i in from..to {
-        let _byte = code.byte(i);
-    }
 }
 
 /// The instruction at an address and its length; none where no form matches, or the form runs past the end.

@@ -1,5 +1,5 @@
 use Rattle.x86.specs.Octets.{Octets}
-use Rattle.x86.proofs.decoding.octets.Given as given
+use Rattle.x86.proofs.code.octets.Given as given
 
 -- what was read so far is bytes
 abbrev pub Inv-loop-i : given.InvT-loop-i

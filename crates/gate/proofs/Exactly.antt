@@ -1,0 +1,49 @@
+-- An image passes exactly when it meets the policy.
+use mathlib.Core.Path.{_≡_, refl, sym, _∙_, ap}
+use mathlib.Core.Bool.{Bool, true, false, _&&_}
+use mathlib.Core.List.{List}
+use Prim.Native.Nat.{ℕ, _/_, _≤_}
+use native.Mathlib.Omega.{arith}
+use lib.Dec.{leb}
+use lib.ListN.{length}
+use borrow.Author.Tests.{le-leb}
+use Rattle.std.specs.Options.{orOther}
+use Rattle.std.specs.declared.option.Option.{Option}
+use Rattle.std.specs.declared.option.Option.the-variants.{Some, None}
+use Rattle.std.specs.declared.result.Result.{Result}
+use Rattle.std.specs.declared.result.Result.the-variants.{Ok, Err}
+use Rattle.x86.specs.Octets.{Octets}
+use Rattle.gate.specs.declared.entries.EntryRow.{EntryRow}
+use Rattle.gate.specs.declared.refusals.Refusal.{Refusal}
+use Rattle.gate.specs.declared.refusals.Refusal.the-variants.{Length, Marks, Row}
+use Rattle.gate.specs.Entries.{rowFits}
+use Rattle.gate.specs.Exact.{ExactlyPolicy}
+use Rattle.gate.specs.Verdicts.{lengthFits, found, unless, verdictOf, answer}
+use Rattle.gate.proofs.Obeys.{obeys}
+use Rattle.gate.proofs.Admits.{admits}
+
+both-true : (a b : Bool) → a ≡ true → b ≡ true → (a && b) ≡ true
+both-true true true p q = refl
+both-true true false p q = q
+both-true false b p q = p
+
+-- a check that is met refuses nothing
+met : (t : Bool) (r : Refusal) (o : Option Refusal) → t ≡ true → orOther (unless t r) o ≡ o
+met true r o e = refl
+met false r o e = let z : _≡_ {A = ℕ} 0 1 = cc in absurd (omega arith)
+
+past : (image : List ℕ) (row : EntryRow) (s t : ℕ) → lengthFits (length image) ≡ true → length image / 8 ≤ s → length image / 8 ≤ t → rowFits row (length image) ≡ true →
+    verdictOf image row s t ≡ found image row
+past image row s t l hs ht w =
+    met (lengthFits (length image)) Length _ l
+    ∙ met (leb (length image / 8) s && leb (length image / 8) t) Marks _ (both-true (leb (length image / 8) s) (leb (length image / 8) t) (le-leb (length image / 8) s hs) (le-leb (length image / 8) t ht))
+    ∙ met (rowFits row (length image)) Row _ w
+
+passing : (o : Option Refusal) → answer o ≡ Ok tt → o ≡ None
+passing None e = refl
+passing (Some r) e = let z : _≡_ {A = ℕ} 0 1 = cc in absurd (omega arith)
+
+pub exactly : (image : List ℕ) (row : EntryRow) (s t : ℕ) (r : Result (Unit {0}) Refusal) → Octets image 0 (length image) → r ≡ answer (verdictOf image row s t) → ExactlyPolicy image row s t r
+exactly image row s t r o e l hs ht w =
+    let v = past image row s t l hs ht w in
+    (λ ok. obeys image row o (passing (found image row) (sym (e ∙ ap answer v) ∙ ok)), λ m. e ∙ ap answer (v ∙ admits image row w m))
