@@ -14,6 +14,17 @@ PROGRAM = "target/bin/volga"
 # each line of a script, and what is wrong with it (or the answer)
 LINES = [
     (b"list", "error: no module was taken yet"),
+    (b"gate", "error: no module was taken yet"),
+    (b"gate 4 4", "error: no module was taken yet"),
+    (b"marks", "error: no module was judged yet"),
+    (b"row", "error: not a number"),
+    (b"row 64", "error: not a number"),
+    (b"row 64 x", "error: not a number"),
+    (b"row 64 1 1", "error: too many words"),
+    (b"row 4294967296 0", "error: a number above 4294967295"),
+    (b"gate 4", "error: not a number"),
+    (b"gate 1048577 4", "error: a marks buffer has at most 1048576 bytes"),
+    (b"marks all", "error: too many words"),
     (b"frobnicate 1 2", "error: unknown command"),
     (b"modules 90", "error: unknown command"),
     (b"module 9", "error: an odd number of hexadecimal digits"),
@@ -39,11 +50,19 @@ LINES = [
     (b"module " + b"9" * 99993, "error: an odd number of hexadecimal digits"),
     (b"module " + b"90" * 49997, "module 49997 bytes"),
     (b"module", "module 0 bytes"),
-    (b"list", "end 0"),
-    (b"module 90*0 F4 # a comment", "module 1 bytes"),
-    (b"list\r", "0 straight f4: hlt\nend 1"),
-    (b"\t module\tEbFe 0F84fBfFffff*0x2 \t", "module 14 bytes"),
-    (b"list", "0 direct ebfe: jmp    0x0\n2 direct 0f84fbffffff: je     0x3\n8 direct 0f84fbffffff: je     0x9\nend 14"),
+    (b"list", "refused 1"),
+    (b"gate", "refused 1"),
+    (b"marks", "starts \ntargets "),
+    (b"module 81C401020304*5 90*0 F4*0x2 # a comment", "module 32 bytes"),
+    (b"list\r", "".join(f"{6 * i} straight 81c401020304: add    esp,0x4030201\n" for i in range(5)) + "30 straight f4: hlt\n31 straight f4: hlt\nend 32"),
+    (b"gate 0x3 4", "refused 2"),
+    (b"marks", "starts ffffff\ntargets ffffffff"),
+    (b"gate", "passed"),
+    (b"marks", "starts 411004c1\ntargets 00000000"),
+    (b"row 0x40 1", "row 64 1"),
+    (b"\t module\tEbFe 0F84fBfFffff*0x5 \t", "module 32 bytes"),
+    (b"list", "0 direct ebfe: jmp    0x0\n" + "".join(f"{2 + 6 * i} direct 0f84fbffffff: je     {3 + 6 * i:#x}\n" for i in range(5)) + "end 32"),
+    (b"gate", "refused 7 at 3"),
 ]
 
 
@@ -75,11 +94,11 @@ def main():
         status, answer = run([], f"module @{image}\nlist\n".encode())
         check("a module in a file", (status, answer.splitlines()[0], answer.splitlines()[-1]), (0, "module 32 bytes", "end 32"))
     check("a script that is not there", run(["/no/such/script"], b""), (1, ""))
-    long = (b"90*65536", b"83e0e0ffe0*13107 90", b"81840801020304aabbccdd*5957")
+    long = (b"90*65536", b"83e0e0ffe0*13107 90", b"81840801020304aabbccdd*5957 90*9")
     for module in long:
         start = time.time()
-        status, answer = run([], b"module " + module + b"\nlist\n")
-        check("a long module", (status, answer.splitlines()[-1][:4], time.time() - start < 1), (0, "end ", True))
+        status, answer = run([], b"module " + module + b"\nlist\ngate\n")
+        check("a long module", (status, answer.splitlines()[-2][:4], time.time() - start < 1), (0, "end ", True))
     print(f"volga: {len(LINES)} lines and {len(long)} long modules answered as they should")
 
 
