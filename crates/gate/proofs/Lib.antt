@@ -8,3 +8,4 @@ pub mod Judging
 pub mod Obeys
 pub mod Admits
 pub mod Exactly
+pub mod Numbered

@@ -9,3 +9,4 @@ pub mod Passes
 pub mod Laws
 pub mod Policy
 pub mod Exact
+pub mod Exports

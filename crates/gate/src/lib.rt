@@ -2,6 +2,7 @@
 //! targets that the tables answer.
 pub mod elements;
 pub mod entries;
+pub mod exports;
 pub mod laws;
 mod marks;
 pub mod passes;
