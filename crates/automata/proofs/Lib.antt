@@ -6,3 +6,4 @@ pub mod Straight
 pub mod Direct
 pub mod Masked
 pub mod Agrees
+pub mod Targets

@@ -1,6 +1,8 @@
 -- How long the pair, the straight form or the direct form at a place is, by the grammar.
-use Prim.Native.Nat.{ℕ}
+use Prim.Native.Nat.{ℕ, _+_, _-_}
+use mathlib.Core.Bool.{cond}
 use mathlib.Core.List.{List}
+use lib.Dec.{eqb}
 use Rattle.std.specs.declared.option.Option.{Option}
 use Rattle.std.specs.declared.option.Option.the-variants.{Some, None}
 use Rattle.x86.specs.declared.instructions.Direct.{Direct as DirectForm}
@@ -9,7 +11,11 @@ use Rattle.x86.specs.declared.instructions.Instruction.the-variants.{Straight, 
 use Rattle.x86.specs.declared.instructions.Decoded.{Decoded}
 use Rattle.x86.specs.declared.pairs.Pair.{Pair}
 use Rattle.x86.specs.Instructions.{targetOf}
-use Rattle.x86.specs.Decoded.{decodedAt}
+use Rattle.x86.specs.declared.registers.Width.{Width}
+use Rattle.x86.specs.declared.registers.Width.the-variants.{Byte, Long}
+use Rattle.x86.specs.Numbers.{widthBytes}
+use Rattle.x86.specs.Meanings.{extended}
+use Rattle.x86.specs.Decoded.{valueAt, decodedAt}
 use Rattle.x86.specs.Pairs.{pairAt}
 
 abbrev pub ofPair : Option Pair → Option ℕ
@@ -50,3 +56,11 @@ targetIn (Some d) p = targetOf d p
 -- where the direct form at p goes to
 abbrev pub directTarget : List ℕ → ℕ → Option ℕ
 directTarget bs p = targetIn (decodedAt bs p) p
+
+-- how wide the displacement of a direct form of n bytes is
+abbrev pub aimWidth : ℕ → Width
+aimWidth n = cond (eqb n 2) Byte Long
+
+-- the displacement of a direct form of n bytes at p: its last bytes
+abbrev pub displacementIn : List ℕ → ℕ → ℕ → ℕ
+displacementIn bs p n = extended (aimWidth n) (valueAt (aimWidth n) bs (p + (n - widthBytes (aimWidth n))))

@@ -2,7 +2,7 @@
 ghost use mathlib.Core.Path.{_≡_};
 ghost use Rattle.std.specs.Options.{Cases};
 ghost use Rattle.x86.specs.Laws.{Inside};
-ghost use Rattle.automata.specs.Lengths.{pairLength, straightLength, directLength, directTarget};
+ghost use Rattle.automata.specs.Lengths.{pairLength, straightLength, directLength, directTarget, displacementIn};
 use crate::patterns::DirectAutomaton;
 use crate::patterns::Directs;
 use crate::patterns::PairAutomaton;
@@ -11,7 +11,8 @@ use crate::patterns::StraightAutomaton;
 use crate::patterns::Straights;
 use crate::walks::walk;
 use x86::code::Code;
-use x86::decoding::decode;
+use x86::decoding::number_at;
+use x86::registers::Width;
 
 /// The length of the pair at an address.
 pub fn pair_length<C: Code>(code: &C, at: u32) -> Option<u32>
@@ -40,9 +41,22 @@ pub fn direct_length<C: Code>(code: &C, at: u32) -> Option<u32>
     Some(length as u32)
 }
 
+// The displacement of a direct form stands in its last bytes: one in a form of two bytes, four in a longer one.
+fn displacement<C: Code>(code: &C, at: u32, length: u32) -> u32
+    ensures { λ r. ⌜ r ≡ displacementIn (C·Code .bytes (now (code .entry))) at length ⌝ }
+{
+    if length == 2 {
+        Width::Byte.extend(number_at(code, at, 1, Width::Byte))
+    } else {
+        number_at(code, at, length.saturating_sub(4), Width::Long)
+    }
+}
+
 /// Where the direct form at an address goes to, modulo 2^32.
 pub fn direct_target<C: Code>(code: &C, at: u32) -> Option<u32>
     ensures { λ r. ⌜ r ≡ directTarget (C·Code .bytes (now (code .entry))) at ⌝ }
 {
-    decode(code, at)?.target(at)
+    let length = direct_length(code, at)?;
+    let displacement = displacement(code, at, length);
+    Some(at.wrapping_add(length).wrapping_add(displacement))
 }

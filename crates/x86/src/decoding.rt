@@ -38,6 +38,13 @@ fn value<C: Code>(code: &C, at: usize, width: Width) -> u32
     }
 }
 
+/// The number of a width that stands `offset` bytes behind an address, lowest byte first.
+pub fn number_at<C: Code>(code: &C, at: u32, offset: u32, width: Width) -> u32
+    ensures { λ r. ⌜ r ≡ valueAt width (bytes (now (code .entry))) (at + offset) ⌝ }
+{
+    value(code, at as usize + offset as usize, width)
+}
+
 // The displacement under `mode`, beside a base or an rm with this number.
 fn displacement_width(mode: u8, number: u8) -> Option<Width>
     ensures { λ r. ⌜ r ≡ displacementWidth mode number ⌝ }

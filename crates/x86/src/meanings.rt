@@ -22,7 +22,7 @@ use crate::registers::Width;
 
 impl Width {
     /// A number of this width as a signed number of 32 bits.
-    pub(crate) fn extend(self, value: u32) -> u32
+    pub fn extend(self, value: u32) -> u32
         ensures { λ r. ⌜ r ≡ extended self value ⌝ }
     {
         match self {
