@@ -7,7 +7,7 @@ ghost use Rattle.gate.specs.Verdicts.{answer, misplaced, unmarked};
 use crate::refusals::Refusal;
 
 /// Takes the marks of the first `count` bytes away.
-pub fn clear(buffer: &mut [u8], count: usize)
+pub(crate) fn clear(buffer: &mut [u8], count: usize)
     requires { ⌜ count ≤ length (now buffer) ⌝ }
     ensures { λ _. ⌜ now (buffer .exit) ≡ unmarked count (now (buffer .entry)) ⌝ }
 {
@@ -17,7 +17,7 @@ pub fn clear(buffer: &mut [u8], count: usize)
 }
 
 /// Marks an address.
-pub fn mark(buffer: &mut [u8], address: u32)
+pub(crate) fn mark(buffer: &mut [u8], address: u32)
     requires { ⌜ address / 8 < length (now buffer) ⌝ }
     ensures { λ _. ⌜ now (buffer .exit) ≡ marked (now (buffer .entry)) address ⌝ }
 {
@@ -25,7 +25,7 @@ pub fn mark(buffer: &mut [u8], address: u32)
 }
 
 /// The lowest address of the first `count` bytes that has to be a start and is none.
-pub fn compare(starts: &[u8], targets: &[u8], count: usize) -> Result<(), Refusal>
+pub(crate) fn compare(starts: &[u8], targets: &[u8], count: usize) -> Result<(), Refusal>
     requires { ⌜ count ≤ length (now starts) ⌝ ∗ ⌜ count ≤ length (now targets) ⌝ ∗ ⌜ count ≤ 8192 ⌝ }
     ensures { λ r. ⌜ r ≡ answer (misplaced (bitAt (now (starts .entry))) (bitAt (now (targets .entry))) (8 * count)) ⌝ }
 {

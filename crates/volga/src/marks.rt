@@ -7,7 +7,7 @@ use std::alloc::Global;
 use std::io;
 
 #[derive(Drop)]
-pub struct Marks {
+pub(crate) struct Marks {
     pub starts: Vec<u8>,
     pub targets: Vec<u8>,
 }
@@ -29,14 +29,14 @@ fn front(buffer: &Vec<u8>, count: usize) -> &[u8] {
 
 impl Marks {
     /// Two buffers of these sizes, each byte `fill`.
-    pub fn new(heap: Global, starts: usize, targets: usize, fill: u8) -> Result<Marks, Problem> {
+    pub(crate) fn new(heap: Global, starts: usize, targets: usize, fill: u8) -> Result<Marks, Problem> {
         let starts = buffer(heap, starts, fill)?;
         let targets = buffer(heap, targets, fill)?;
         Ok(Marks { starts, targets })
     }
 
     /// Prints the first `count` bytes of both.
-    pub fn show(&self, rt: &LibcRuntime, count: usize) -> io::Result<()> {
+    pub(crate) fn show(&self, rt: &LibcRuntime, count: usize) -> io::Result<()> {
         println!(rt, "starts {}", Spelled(front(&self.starts, count)))?;
         println!(rt, "targets {}", Spelled(front(&self.targets, count)))
     }

@@ -50,7 +50,7 @@ enum Judged {
 }
 
 #[derive(Drop)]
-pub struct Session {
+pub(crate) struct Session {
     module: Module,
     row: EntryRow,
     kept: Marks,
@@ -96,7 +96,7 @@ fn judge(rt: &LibcRuntime, image: Vec<u8>, row: EntryRow, marks: &mut Marks) -> 
 }
 
 impl Session {
-    pub fn new(heap: Global) -> Result<Session, Problem> {
+    pub(crate) fn new(heap: Global) -> Result<Session, Problem> {
         Ok(Session {
             module: Module::Missing,
             row: EntryRow { base: 64, count: 0 },
@@ -107,7 +107,7 @@ impl Session {
     }
 
     /// Whether each line so far could be carried out.
-    pub fn went_well(&self) -> bool {
+    pub(crate) fn went_well(&self) -> bool {
         self.well
     }
 
@@ -188,7 +188,7 @@ impl Session {
     }
 
     /// Carries out a line, counted from 1, and prints the answer.
-    pub fn carry_out(&mut self, rt: &LibcRuntime, line: u64, text: &[u8]) -> io::Result<()> {
+    pub(crate) fn carry_out(&mut self, rt: &LibcRuntime, line: u64, text: &[u8]) -> io::Result<()> {
         match self.answer(rt, text)? {
             Ok(()) => Ok(()),
             Err(problem) => {
