@@ -8,6 +8,7 @@ use lib.Dec.{leb}
 use lib.ListN.{length}
 use borrow.Author.Tests.{le-leb}
 use Rattle.std.specs.Options.{orOther}
+use Rattle.std.specs.Results.{isOk}
 use Rattle.std.specs.declared.option.Option.{Option}
 use Rattle.std.specs.declared.option.Option.the-variants.{Some, None}
 use Rattle.std.specs.declared.result.Result.{Result}
@@ -39,11 +40,11 @@ past image row s t l hs ht w =
     ∙ met (leb (length image / 8) s && leb (length image / 8) t) Marks _ (both-true (leb (length image / 8) s) (leb (length image / 8) t) (le-leb (length image / 8) s hs) (le-leb (length image / 8) t ht))
     ∙ met (rowFits row (length image)) Row _ w
 
-passing : (o : Option Refusal) → answer o ≡ Ok tt → o ≡ None
+passing : (o : Option Refusal) → isOk (answer o) ≡ true → o ≡ None
 passing None e = refl
 passing (Some r) e = let z : _≡_ {A = ℕ} 0 1 = cc in absurd (omega arith)
 
-pub exactly : (image : List ℕ) (row : EntryRow) (s t : ℕ) (r : Result (Unit {0}) Refusal) → Octets image 0 (length image) → r ≡ answer (verdictOf image row s t) → ExactlyPolicy image row s t r
+pub exactly : (image : List ℕ) (row : EntryRow) (s t : ℕ) (r : Result (Unit {0}) Refusal) → Octets image 0 (length image) → r ≡ answer (verdictOf image row s t) → ExactlyPolicy image row s t (isOk r)
 exactly image row s t r o e l hs ht w =
-    let v = past image row s t l hs ht w in
-    (λ ok. obeys image row o (passing (found image row) (sym (e ∙ ap answer v) ∙ ok)), λ m. e ∙ ap answer (v ∙ admits image row w m))
+    let v = e ∙ ap answer (past image row s t l hs ht w) in
+    (λ ok. obeys image row o (passing (found image row) (sym (ap isOk v) ∙ ok)), λ m. ap isOk (v ∙ ap answer (admits image row w m)))

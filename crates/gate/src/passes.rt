@@ -4,8 +4,9 @@ ghost use mathlib.Core.Path.{_≡_};
 ghost use mathlib.Core.Bool.{true};
 ghost use lib.ListN.{length};
 ghost use Rattle.std.specs.Of.Vec.{vec-items};
-ghost use Rattle.std.specs.Results.{Cases};
+ghost use Rattle.std.specs.Results.{Cases, isOk};
 ghost use Rattle.gate.specs.Refusals.{refusalIn};
+ghost use Rattle.gate.specs.Exact.{ExactlyPolicy};
 ghost use Rattle.gate.specs.Verdicts.{passes, startsAfter, targetsAfter, verdictOf};
 use crate::entries::EntryRow;
 use crate::refusals::Refusal;
@@ -38,6 +39,7 @@ pub fn gate(
     ensures image { λ r. ⌜ Cases r (λ p. (p .image ≡ image) × (p .row ≡ row)) (λ e. e .image ≡ image) ⌝ }
     ensures starts { λ _. ⌜ now (starts .exit) ≡ startsAfter (vec-items image) row (now (starts .entry)) (now (targets .entry)) ⌝ }
     ensures targets { λ _. ⌜ now (targets .exit) ≡ targetsAfter (vec-items image) row (now (starts .entry)) (now (targets .entry)) ⌝ }
+    ensures policy { λ r. ⌜ ExactlyPolicy (vec-items image) row (length (now (starts .entry))) (length (now (targets .entry))) (isOk r) ⌝ }
 {
     match judge(&image, row, starts, targets) {
         Ok(()) => Ok(Pass { image, row }),

@@ -128,7 +128,7 @@ pub fn judge<C: Code>(
     ensures value { λ r. ⌜ r ≡ answer (verdictOf (C·Code .bytes (now (code .entry))) row (length (now (starts .entry))) (length (now (targets .entry)))) ⌝ }
     ensures starts { λ _. ⌜ now (starts .exit) ≡ startsAfter (C·Code .bytes (now (code .entry))) row (now (starts .entry)) (now (targets .entry)) ⌝ }
     ensures targets { λ _. ⌜ now (targets .exit) ≡ targetsAfter (C·Code .bytes (now (code .entry))) row (now (starts .entry)) (now (targets .entry)) ⌝ }
-    ensures policy { λ r. ⌜ ExactlyPolicy (C·Code .bytes (now (code .entry))) row (length (now (starts .entry))) (length (now (targets .entry))) r ⌝ }
+    ensures policy { λ r. ⌜ ExactlyPolicy (C·Code .bytes (now (code .entry))) row (length (now (starts .entry))) (length (now (targets .entry))) (isOk r) ⌝ }
 {
     octets(code, 0, code.len());
     checked(code, row, starts, targets)

@@ -29,7 +29,12 @@ fn front(buffer: &Vec<u8>, count: usize) -> &[u8] {
 
 impl Marks {
     /// Two buffers of these sizes, each byte `fill`.
-    pub(crate) fn new(heap: Global, starts: usize, targets: usize, fill: u8) -> Result<Marks, Problem> {
+    pub(crate) fn new(
+        heap: Global,
+        starts: usize,
+        targets: usize,
+        fill: u8,
+    ) -> Result<Marks, Problem> {
         let starts = buffer(heap, starts, fill)?;
         let targets = buffer(heap, targets, fill)?;
         Ok(Marks { starts, targets })
