@@ -2,7 +2,7 @@
 """Compares our gate with tools/second_gate.py over random images, rows and marks buffers: the verdict, its address and
 every byte of both buffers afterwards.
 
-    rt check && tools/compare_gates.py [--seed S] [--count N]
+    rt check gate_runs && tools/compare_gates.py [--seed S] [--count N]
     tools/compare_gates.py --self-test [--seed S] [--count N]
 
 The images are laid out of pairs, straight forms and direct forms, whole, astray or damaged; some are plain random bytes.

@@ -5,7 +5,6 @@ use mathlib.Core.List.{List}
 use lib.Dec.{eqb}
 use Rattle.std.specs.declared.option.Option.{Option}
 use Rattle.std.specs.declared.option.Option.the-variants.{Some, None}
-use Rattle.x86.specs.declared.instructions.Direct.{Direct as DirectForm}
 use Rattle.x86.specs.declared.instructions.Instruction.{Instruction}
 use Rattle.x86.specs.declared.instructions.Instruction.the-variants.{Straight, Direct, Loose}
 use Rattle.x86.specs.declared.instructions.Decoded.{Decoded}

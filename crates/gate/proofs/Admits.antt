@@ -36,6 +36,7 @@ use Rattle.gate.specs.declared.refusals.Refusal.{Refusal}
 use Rattle.gate.specs.declared.refusals.Refusal.the-variants.{FarTarget, Unaligned, MidTarget}
 use Rattle.gate.specs.Elements.{takenAt, targetAt}
 use Rattle.gate.specs.Entries.{rowFits, isEntry}
+use Rattle.gate.proofs.Entered.{tested}
 use Rattle.gate.specs.Policy.{Placed, placed, Divides, done, next, Among, here, there, Adjacent, first, further, Leaves, Permitted, Guards, Lands, Guarded, Standing, Meets}
 use Rattle.gate.specs.Walks.{someTaken, isStart, equals, isTarget, farFrom, stopFrom, stopped}
 use Rattle.gate.specs.Verdicts as verdicts
@@ -519,7 +520,7 @@ module _ (image : List ℕ) (row : EntryRow) (m : Meets image row) where
 
   stays : stopped image row ≡ None
   stays =
-      taking-goes-on image row 0 (m .instructions) (meets-taking image row m) (λ x h t e. near-by t (m .landing x h t e)) (length image) (omega arith)
+      taking-goes-on image row 0 (m .instructions) (meets-taking image row m) (λ x h t e. near-by t (tested row (m .instructions) t (m .landing x h t e))) (length image) (omega arith)
 
   entry-behind : (a : ℕ) → rowFits row (length image) ≡ true → a < length image → isEntry row a ≡ true → ⊥
   entry-behind a f h e =
@@ -535,7 +536,7 @@ module _ (image : List ℕ) (row : EntryRow) (m : Meets image row) where
   target-starts : (a : ℕ) → rowFits row (length image) ≡ true → a < length image → isTarget image a ≡ true → isStart image a ≡ true
   target-starts a f h e =
       let w = taking-targets image 0 (m .instructions) (meets-taking image row m) a (length image) (omega arith) e in
-      landed a f h (m .landing (w .source) (w .listed) a (w .goes))
+      landed a f h (tested row (m .instructions) a (m .landing (w .source) (w .listed) a (w .goes)))
 
   placed-well : rowFits row (length image) ≡ true → misplaced (isStart image) (isTarget image) (length image) ≡ None
   placed-well f =

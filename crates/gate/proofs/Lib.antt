@@ -5,6 +5,7 @@ pub mod Taken
 pub mod Turns
 pub mod Late
 pub mod Judging
+pub mod Entered
 pub mod Obeys
 pub mod Admits
 pub mod Exactly

@@ -39,6 +39,7 @@ use Rattle.gate.specs.declared.refusals.Refusal.{Refusal}
 use Rattle.gate.specs.declared.refusals.Refusal.the-variants.{NoMatch, FarTarget, Unaligned, MidTarget}
 use Rattle.gate.specs.Elements.{kinded, takenAt, targetAt}
 use Rattle.gate.specs.Entries.{isEntry}
+use Rattle.gate.proofs.Entered.{told}
 use Rattle.gate.specs.Walks.{ifTaken, someTaken, isStart, isTarget, equals, farFrom, stopFrom, stopped}
 use Rattle.gate.specs.Verdicts.{wrongAt, first, misplaced, found}
 use Rattle.gate.specs.Policy.{Placed, placed, Divides, done, next, Among, here, there, further, Leaves, LeavesLoose, Permitted, Guards, Lands, Guarded, Meets}
@@ -336,7 +337,7 @@ meets-by image row e l = record {
       let s = l .starts a (starts-right image e a h (inl (eq-eqb (a % 32) 0 m))) in
       record { instruction = s .instruction; listed = s .listed; stands = s .stands };
   guarded = l .guarded;
-  landing = λ x m t g. landing-by image row (l .instructions) t e (l .starts) (l .aims x m t g);
+  landing = λ x m t g. told row (l .instructions) t (landing-by image row (l .instructions) t e (l .starts) (l .aims x m t g));
 }
 
 pub obeys : (image : List ℕ) (row : EntryRow) → Octets image 0 (length image) → found image row ≡ None → Meets image row

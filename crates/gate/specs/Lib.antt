@@ -5,7 +5,6 @@ pub mod Walks
 pub mod Bitmaps
 pub mod Verdicts
 pub mod Reading
-pub mod Passes
 pub mod Laws
 pub mod Policy
 pub mod Exact

@@ -1,6 +1,5 @@
 -- The aligned sandbox policy, in its own words.
-use Prim.Native.Nat.{ℕ, _+_, _/_, _%_, _<_}
-use mathlib.Core.Bool.{true}
+use Prim.Native.Nat.{ℕ, _+_, _*_, _/_, _%_, _<_}
 use mathlib.Core.Path.{_≡_}
 use mathlib.Core.Logic.{_⊎_}
 use mathlib.Core.List.{List, [], _∷_, _++_}
@@ -15,7 +14,6 @@ use Rattle.x86.specs.Grammar.{Encodes}
 use Rattle.x86.specs.Instructions.{target}
 use Rattle.x86.specs.Laws.{mask, leave}
 use Rattle.gate.specs.declared.entries.EntryRow.{EntryRow}
-use Rattle.gate.specs.Entries.{isEntry}
 
 -- an instruction of an image: the address where it stands, what it is, and its bytes
 pub record Placed : Type 0 where
@@ -88,6 +86,12 @@ pub record Standing (is : List Placed) (a : ℕ) : Type 0 where
   pub listed : Among instruction is
   pub stands : instruction .address ≡ a
 
+-- t is an entry of the row: so many times 32 behind its base, for a number below its count
+pub record Entry (row : EntryRow) (t : ℕ) : Type 0 where
+  pub number : ℕ
+  pub below : number < row .count
+  pub stands : t ≡ row .base + 32 * number
+
 -- an image meets the policy with an entry row
 pub record Meets (image : List ℕ) (row : EntryRow) : Type 0 where
   pub instructions : List Placed
@@ -102,4 +106,4 @@ pub record Meets (image : List ℕ) (row : EntryRow) : Type 0 where
   -- each direct target is the address of an instruction that is no jump or call through a register, or an entry
   pub landing :
       (x : Placed) → Among x instructions → (t : ℕ) → target (length (x .bytes)) (x .address) (x .instruction) ≡ Some t →
-      Lands instructions t ⊎ (isEntry row t ≡ true)
+      Lands instructions t ⊎ Entry row t

@@ -5,6 +5,7 @@ ghost use lib.ListN.{length, drop};
 ghost use Rattle.std.specs.Results.{isOk};
 ghost use mathlib.Core.Bool.{true};
 ghost use Rattle.gate.specs.Walks.{isStart, isTarget, stopped};
+ghost use Rattle.x86.specs.Octets.{Octets};
 ghost use Rattle.gate.specs.Exact.{ExactlyPolicy};
 ghost use Rattle.gate.specs.Verdicts.{answer, found, marksOf, lengthFits, startsAfter, targetsAfter, unmarked, verdictOf};
 use crate::entries::EntryRow;
@@ -118,6 +119,17 @@ fn checked<C: Code>(
     verdict
 }
 
+// The policy speaks of bytes; that the source has some is known by reading them. Only an image of a fit length is read for it,
+// and the reading has no effect.
+fn image_octets<C: Code>(code: &C)
+    ensures { λ _. ⌜ (lengthFits (length (C·Code .bytes (now (code .entry)))) ≡ true → Octets (C·Code .bytes (now (code .entry))) 0 (length (C·Code .bytes (now (code .entry))))) ⌝ }
+{
+    let length = code.len();
+    if length_fits(length) {
+        octets(code, 0, length);
+    }
+}
+
 /// Judges an image, and leaves the marks of one that passes.
 pub fn judge<C: Code>(
     code: &C,
@@ -130,6 +142,6 @@ pub fn judge<C: Code>(
     ensures targets { λ _. ⌜ now (targets .exit) ≡ targetsAfter (C·Code .bytes (now (code .entry))) row (now (starts .entry)) (now (targets .entry)) ⌝ }
     ensures policy { λ r. ⌜ ExactlyPolicy (C·Code .bytes (now (code .entry))) row (length (now (starts .entry))) (length (now (targets .entry))) (isOk r) ⌝ }
 {
-    octets(code, 0, code.len());
+    image_octets(code);
     checked(code, row, starts, targets)
 }

@@ -1,7 +1,4 @@
 -- The checks give the equation, and the equation the policy.
-use mathlib.Core.Path.{subst}
-use Prim.Native.Nat.{ℕ}
-use Rattle.x86.specs.Octets.{Octets}
 use Rattle.gate.proofs.Exactly.{exactly}
 use Rattle.gate.proofs.verdicts.judge.Needs as need
 
@@ -12,7 +9,5 @@ returns g c =
       value = e .value;
       starts = e .starts;
       targets = e .targets;
-      policy =
-          exactly (g .C·Code .bytes (c .args .code .now)) (c .args .row) _ _ _
-          (subst (λ (n : ℕ). Octets (g .C·Code .bytes (c .args .code .now)) 0 n) (c .len .ensures) (c .octets .ensures)) (e .value);
+      policy = exactly (g .C·Code .bytes (c .args .code .now)) (c .args .row) _ _ _ (c .image-octets .ensures) (e .value);
     }
