@@ -1,8 +1,8 @@
 //! Marks buffers.
+use script::answers::Marked;
+use script::answers::MarkedDisplay;
 use script::groups::LIMIT;
 use script::problems::Problem;
-use script::spelling::Spelled;
-use script::spelling::SpelledDisplay;
 use std::alloc::Global;
 use std::io;
 
@@ -42,7 +42,8 @@ impl Marks {
 
     /// Prints the first `count` bytes of both.
     pub(crate) fn show(&self, rt: &LibcRuntime, count: usize) -> io::Result<()> {
-        println!(rt, "starts {}", Spelled(front(&self.starts, count)))?;
-        println!(rt, "targets {}", Spelled(front(&self.targets, count)))
+        let starts = front(&self.starts, count);
+        let targets = front(&self.targets, count);
+        println!(rt, "{}", Marked { starts, targets })
     }
 }

@@ -8,8 +8,12 @@ use gate::readers::Reader;
 use gate::refusals::RefusalDisplay;
 use listing::lines::Line;
 use listing::lines::LineDisplay;
+use script::answers::Ended;
+use script::answers::EndedDisplay;
 use script::answers::Failure;
 use script::answers::FailureDisplay;
+use script::answers::Passed;
+use script::answers::PassedDisplay;
 use script::answers::Rowed;
 use script::answers::RowedDisplay;
 use script::answers::Taken;
@@ -73,7 +77,13 @@ fn list(rt: &LibcRuntime, module: &[u8]) -> io::Result<()> {
             None => break,
         }
     }
-    println!(rt, "end {}", module.len())
+    println!(
+        rt,
+        "{}",
+        Ended {
+            length: module.len()
+        }
+    )
 }
 
 // Judges with these buffers; the module is a pass after it, or bytes again.
@@ -85,7 +95,7 @@ fn judge(rt: &LibcRuntime, image: Vec<u8>, row: EntryRow, marks: &mut Marks) -> 
     marks.targets = targets;
     match verdict {
         Ok(pass) => {
-            println!(rt, "passed")?;
+            println!(rt, "{}", Passed)?;
             Ok(Module::Passed(pass))
         }
         Err(refused) => {
