@@ -45,7 +45,7 @@ pub impl Code for &[u8] as SliceCode {
 }
 
 /// That the numbers that a source means are bytes is known where they are read, and nowhere else. So this reads them, and
-/// its contract is the fact; the loop has no effect, and compiles to nothing.
+/// its contract is the fact; the loop has no effect, and for a slice or a `Vec` it compiles to nothing.
 pub fn octets<C: Code>(code: &C, from: usize, to: usize)
     ensures { λ _. ⌜ Octets (bytes (now (code .entry))) from to ⌝ }
 {
