@@ -398,7 +398,8 @@ def compare(rng, count):
 def examples():
     """The cases of the examples table of docs/gate.md, each with its verdict as the page words it."""
     found = []
-    for text, verdict in re.findall(r"^\| (.*) \| (.*) \|$", PAGE.read_text().split("## Examples")[1], re.M)[1:]:
+    section = PAGE.read_text().split("## Examples\n")[1].split("\n## ")[0]
+    for text, verdict in re.findall(r"^\| (.*) \| (.*) \|$", section, re.M)[1:]:
         base, count, small = 64, 0, None
         if row := re.search(r", row (\d+), (\d+)$", text):
             base, count = map(int, row.groups())
