@@ -1,9 +1,8 @@
 -- Each part of an encoding is read as what it encodes.
-use Rattle.std.proofs.Common.{◌≡◌, ℕ, zero, suc, ◌+◌, ◌*◌, ◌/◌, ◌%◌, ◌<◌, ◌≤◌, Bool, true, false, cond, eqb, leb, List, [], ◌∷◌, ◌++◌, length, get_or, Some, None, Option, sym, refl, ap, ◌∙◌, subst, arith, length-append, ne_eqb, le-leb}
+use Rattle.std.proofs.Common.{◌≡◌, ℕ, ◌+◌, ◌/◌, ◌%◌, ◌<◌, Bool, true, false, cond, eqb, leb, List, ◌∷◌, length, get_or, Some, None, Option, sym, refl, ap, ◌∙◌, subst, arith, length-append, ne_eqb, le-leb}
 use borrow.Author.Tests.{lt-leb}
 use Rattle.std.specs.Option.{option_map}
 use Rattle.x86.specs.declared.registers.Width.{Width}
-use Rattle.x86.specs.declared.registers.Width.TheVariants.{Byte, Long}
 use Rattle.x86.specs.declared.registers.Register.{Register as Register32}
 use Rattle.x86.specs.declared.operands.Address.{Address}
 use Rattle.x86.specs.declared.operands.Index.{Index}
@@ -12,12 +11,11 @@ use Rattle.x86.specs.declared.operands.RegisterOrMemory.{RegisterOrMemory}
 use Rattle.x86.specs.declared.operands.RegisterOrMemory.TheVariants.{Register, Memory}
 use Rattle.x86.specs.declared.instructions.Instruction.{Instruction}
 use Rattle.x86.specs.declared.forms.Form.{Form}
-use Rattle.x86.specs.declared.forms.Form.TheVariants.{Alone, WithImmediate, WithOperand, WithBoth}
 use Rattle.x86.specs.Numbers.{width_bytes}
-use Rattle.x86.specs.Meanings.{extended, alone_means, immediate_width, immediate_means, operand_means, both_width, both_means}
-use Rattle.x86.specs.Decoded.{long_at, value_at, address, base_of, index_of, displacement_width_of, displacement_at, address_at, modrm, modrm_at, form_at}
+use Rattle.x86.specs.Meanings.{alone_means, immediate_width, immediate_means, operand_means, both_width, both_means}
+use Rattle.x86.specs.Decoded.{value_at, address, base_of, index_of, displacement_width_of, displacement_at, address_at, modrm, modrm_at, form_at}
 use Rattle.x86.specs.Grammar.{Spells, byte, long, Displaces, not_at_all, by, fields, Bases, plain, absolute, near, far, Indexes, scaled_by, unscaled, index, Addresses, based, scaled, Names, register, memory, Follows, nothing, immediate, operand, both}
-use Rattle.x86.proofs.Bytes.{Holds, same_place, holds_left, holds_right}
+use Rattle.x86.proofs.Bytes.{Holds, holds_left, holds_right}
 
 pub spelled_length : (w : Width) (v : ℕ) (e : List ℕ) → Spells w v e → length e ≡ width_bytes w
 spelled_length _ _ _ (byte b h) = refl

@@ -1,18 +1,16 @@
 -- The decoder and the grammar meet.
-use Rattle.std.proofs.Common.{◌≡◌, ℕ, zero, suc, ◌+◌, ◌-◌, ◌*◌, ◌/◌, ◌%◌, ◌<◌, ◌≤◌, Bool, true, false, cond, ◌&&◌, eqb, leb, List, [], ◌∷◌, ◌++◌, length, get_or, take, drop, Some, None, Option, sym, refl, ap, ◌∙◌, subst, arith, length-append, eqb-true, le-leb, leb-false, leb-true}
-use borrow.Author.Tests.{eqb-false}
+use Rattle.std.proofs.Common.{◌≡◌, ℕ, ◌+◌, ◌-◌, ◌<◌, ◌≤◌, Bool, true, false, cond, eqb, leb, List, [], ◌∷◌, ◌++◌, length, get_or, take, drop, Some, None, Option, sym, refl, ap, ◌∙◌, subst, arith, length-append, eqb-true, le-leb, leb-true}
 use Rattle.x86.specs.declared.instructions.Instruction.{Instruction}
 use Rattle.x86.specs.declared.instructions.Decoded.{Decoded}
 use Rattle.x86.specs.declared.forms.Form.{Form}
 use Rattle.x86.specs.Rows.{Row, look_up, one_byte_rows, two_byte_rows}
 use Rattle.x86.specs.Decoded.{form_at, row_at, read_at, within, decoded_at, instruction_of}
-use Rattle.x86.specs.Instructions.{class_of}
-use Rattle.x86.specs.Grammar.{Opens, one_byte, two_byte, Follows, Encodes, encoding, opcode, count}
+use Rattle.x86.specs.Grammar.{Opens, one_byte, two_byte, Follows, Encodes, encoding, opcode}
 use Rattle.x86.specs.Octets.{Octets}
 use Rattle.x86.specs.Laws.{Inside, EveryEncoding}
-use Rattle.x86.proofs.Bytes.{Holds, same_place, holds_end, holds_left, holds_right, holds_join, holds_from, holds_some, holds_take}
+use Rattle.x86.proofs.Bytes.{Holds, same_place, holds_end, holds_left, holds_right, holds_join, holds_some, holds_take}
 use Rattle.x86.proofs.Complete.{chosen, passed_over, reads_form}
-use Rattle.x86.proofs.Table.{found_one, found_two, not_0f, looked_one, looked_two, Found}
+use Rattle.x86.proofs.Table.{found_one, found_two, not_0f, looked_one, looked_two}
 use Rattle.x86.proofs.Sound.{Stands, Between, form_stands, form_after, form_short}
 
 -- the opcode leads to its form

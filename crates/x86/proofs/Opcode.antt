@@ -1,5 +1,5 @@
 -- Which way a reading takes behind its first byte.
-use Rattle.std.proofs.Common.{◌≡◌, ℕ, ◌+◌, ◌<◌, ◌≤◌, Bool, true, false, cond, eqb, List, get_or, IfSome, Some, None, Option, sym, refl, ◌∙◌, subst, arith, ne_eqb}
+use Rattle.std.proofs.Common.{◌≡◌, ℕ, ◌+◌, ◌<◌, ◌≤◌, Bool, true, false, cond, eqb, List, get_or, IfSome, Some, None, Option, sym, refl, subst, arith, ne_eqb}
 use Rattle.x86.specs.declared.instructions.Instruction.{Instruction}
 use Rattle.x86.specs.declared.forms.Form.{Form}
 use Rattle.x86.specs.Rows.{look_up, one_byte_rows, two_byte_rows}

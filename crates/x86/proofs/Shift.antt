@@ -1,6 +1,5 @@
 -- What is read from a place on is what the bytes from there on begin with.
-use Rattle.std.proofs.Common.{◌≡◌, ℕ, ◌+◌, ◌-◌, ◌*◌, ◌/◌, ◌%◌, ◌≤◌, Bool, true, false, cond, not, ◌&&◌, eqb, leb, List, ◌∷◌, length, get_or, drop, Some, None, Option, sym, refl, ap, ◌∙◌, subst, add-zero, arith, length-drop, get_or-drop, le-leb, leb-false, leb-true}
-use borrow.Author.Tests.{lt-leb}
+use Rattle.std.proofs.Common.{◌≡◌, ℕ, ◌+◌, ◌-◌, ◌/◌, ◌%◌, ◌≤◌, Bool, true, false, cond, not, ◌&&◌, eqb, leb, List, ◌∷◌, length, get_or, drop, Some, None, Option, sym, refl, ap, ◌∙◌, arith, length-drop, get_or-drop, leb-false, leb-true}
 use Rattle.std.specs.Option.{option_map}
 use Rattle.x86.specs.declared.registers.Width.{Width}
 use Rattle.x86.specs.declared.registers.Width.TheVariants.{Byte, Long}
@@ -9,15 +8,14 @@ use Rattle.x86.specs.declared.operands.Index.{Index}
 use Rattle.x86.specs.declared.operands.Modrm.{Modrm}
 use Rattle.x86.specs.declared.operands.RegisterOrMemory.TheVariants.{Register, Memory}
 use Rattle.x86.specs.declared.instructions.Instruction.{Instruction}
-use Rattle.x86.specs.declared.instructions.Decoded.{Decoded}
 use Rattle.x86.specs.declared.forms.Form.{Form}
 use Rattle.x86.specs.declared.forms.Form.TheVariants.{Alone, WithImmediate, WithOperand, WithBoth}
 use Rattle.x86.specs.Numbers.{width_bytes}
 use Rattle.x86.specs.Rows.{look_up, one_byte_rows, two_byte_rows}
-use Rattle.x86.specs.Meanings.{extended, alone_means, immediate_width, immediate_means, operand_means, both_width, both_means}
+use Rattle.x86.specs.Meanings.{extended, immediate_width, immediate_means, operand_means, both_width, both_means}
 use Rattle.x86.specs.Decoded.{value_at, address, base_of, index_of, displacement_width_of, displacement_at, address_at, modrm, modrm_at, form_at, row_at, read_at, within, decoded_at, instruction_of}
 use Rattle.x86.specs.declared.pairs.Pair.{Pair}
-use Rattle.x86.specs.Pairs.{masks, transfer_at, pair_at}
+use Rattle.x86.specs.Pairs.{transfer_at, pair_at}
 use Rattle.x86.proofs.Meets.{read_past}
 
 scaled_at : List ℕ → ℕ → ℕ → ℕ → Address × ℕ

@@ -1,22 +1,21 @@
 -- Whatever is read stands there as an encoding.
-use Rattle.std.proofs.Common.{◌≡◌, ℕ, zero, suc, ◌+◌, ◌-◌, ◌*◌, ◌/◌, ◌%◌, ◌<◌, ◌≤◌, Bool, true, false, cond, ◌&&◌, eqb, leb, List, [], ◌∷◌, ◌++◌, length, get_or, Some, None, Option, sym, refl, ap, ◌∙◌, subst, arith, length-append, eqb-true, leb-false, leb-true}
+use Rattle.std.proofs.Common.{◌≡◌, ℕ, zero, suc, ◌+◌, ◌/◌, ◌%◌, ◌<◌, ◌≤◌, Bool, true, false, cond, eqb, leb, List, [], ◌∷◌, ◌++◌, length, get_or, Some, None, Option, sym, refl, ap, ◌∙◌, subst, arith, length-append, eqb-true, leb-false, leb-true}
 use borrow.Author.Tests.{eqb-false}
 use Rattle.std.specs.Option.{option_map}
 use Rattle.x86.specs.declared.registers.Width.{Width}
 use Rattle.x86.specs.declared.registers.Width.TheVariants.{Byte, Long}
 use Rattle.x86.specs.declared.operands.Address.{Address}
 use Rattle.x86.specs.declared.operands.Modrm.{Modrm}
-use Rattle.x86.specs.declared.operands.RegisterOrMemory.{RegisterOrMemory}
 use Rattle.x86.specs.declared.operands.RegisterOrMemory.TheVariants.{Register, Memory}
 use Rattle.x86.specs.declared.instructions.Instruction.{Instruction}
 use Rattle.x86.specs.declared.forms.Form.{Form}
 use Rattle.x86.specs.declared.forms.Form.TheVariants.{Alone, WithImmediate, WithOperand, WithBoth}
 use Rattle.x86.specs.Numbers.{register_of, width_bytes}
 use Rattle.x86.specs.Meanings.{extended, alone_means, immediate_width, immediate_means, operand_means, both_width, both_means}
-use Rattle.x86.specs.Decoded.{long_at, value_at, address, base_of, index_of, displacement_width_of, displacement_at, address_at, modrm, modrm_at, form_at}
-use Rattle.x86.specs.Grammar.{Spells, byte, long, Displaces, not_at_all, by, fields, Bases, plain, absolute, near, far, Indexes, scaled_by, unscaled, index, Addresses, based, scaled, Names, register, memory, Follows, nothing, immediate, operand, both}
+use Rattle.x86.specs.Decoded.{value_at, address, base_of, index_of, displacement_width_of, displacement_at, address_at, modrm, modrm_at, form_at}
+use Rattle.x86.specs.Grammar.{Spells, byte, long, Displaces, not_at_all, by, fields, Bases, plain, absolute, near, far, Indexes, scaled_by, unscaled, Addresses, based, scaled, Names, register, memory, Follows, nothing, immediate, operand, both}
 use Rattle.x86.specs.Octets.{Octets}
-use Rattle.x86.proofs.Bytes.{Holds, same_place, holds_end, holds_join}
+use Rattle.x86.proofs.Bytes.{Holds, same_place, holds_join}
 
 -- what P says of stands from p up to q
 pub record Stands (P : List ℕ → Type 0) (bs : List ℕ) (p q : ℕ) : Type 0 where

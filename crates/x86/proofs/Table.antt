@@ -1,6 +1,6 @@
 -- The rows of the opcode map: no two share an opcode, and each opcode of a row is found there. Both are computed once
 -- over the whole list.
-use Rattle.std.proofs.Common.{◌≡◌, ℕ, zero, suc, ◌+◌, ◌<◌, ◌≤◌, Bool, true, false, cond, not, ◌&&◌, T, eqb, ltb, List, [], ◌∷◌, Some, None, Option, sym, refl, ap, ◌∙◌, subst, inl, inr, le_of_suc-le-suc, not-suc-le-zero, eq-or-lt_of_le, arith, eqb→eq, ltb→lt}
+use Rattle.std.proofs.Common.{◌≡◌, ℕ, zero, suc, ◌<◌, Bool, true, false, cond, not, ◌&&◌, T, eqb, ltb, List, [], ◌∷◌, Some, sym, refl, ap, subst, inl, inr, le_of_suc-le-suc, not-suc-le-zero, eq-or-lt_of_le, arith, eqb→eq, ltb→lt}
 use Rattle.x86.specs.declared.forms.Form.{Form}
 use Rattle.x86.specs.Rows.{Opcodes, Row, one_byte_rows, two_byte_rows, fits, number_in, look_up}
 use Rattle.x86.specs.Grammar.{Among, first, later, count, opcode}

@@ -1,5 +1,5 @@
 -- What follows of the grammar by itself.
-use Rattle.std.proofs.Common.{◌≡◌, ℕ, zero, suc, ◌+◌, ◌-◌, ◌<◌, ◌≤◌, Bool, true, false, cond, not, ◌&&◌, List, [], ◌∷◌, ◌++◌, length, get_or, take, drop, Some, None, Option, sym, refl, ap, ◌∙◌, subst, arith, length-append}
+use Rattle.std.proofs.Common.{◌≡◌, ℕ, ◌<◌, ◌≤◌, List, [], ◌∷◌, ◌++◌, length, Some, Option, refl, ap, subst, arith, length-append}
 use Rattle.x86.specs.declared.registers.Width.{Width}
 use Rattle.x86.specs.declared.operands.Address.{Address}
 use Rattle.x86.specs.declared.operands.RegisterOrMemory.{RegisterOrMemory}
@@ -14,14 +14,12 @@ use Rattle.x86.specs.declared.forms.WithOperand.TheVariants.{Through}
 use Rattle.x86.specs.declared.forms.WithImmediate.{WithImmediate as Immediate}
 use Rattle.x86.specs.declared.forms.Form.{Form}
 use Rattle.x86.specs.declared.forms.Form.TheVariants.{WithImmediate, WithOperand, WithBoth}
-use Rattle.x86.specs.Numbers.{register_of, width_bytes}
+use Rattle.x86.specs.Numbers.{register_of}
 use Rattle.x86.specs.Instructions.{class_of}
-use Rattle.x86.specs.Rows.{Row}
 use Rattle.x86.specs.Pairs.{mask_of, leave_of}
 use Rattle.x86.specs.Decoded.{decoded_at, instruction_of}
-use Rattle.x86.specs.Grammar.{Among, first, later, Opens, one_byte, two_byte, Spells, byte, long, Displaces, not_at_all, by, fields, Addresses, based, scaled, Names, register, memory, Follows, nothing, immediate, operand, both, Encodes, encoding}
-use Rattle.x86.specs.Laws.{Unambiguous, ClassesApart, Short, Halves, Pairs, paired, mask, leave}
-use Rattle.x86.proofs.Complete.{spelled_length}
+use Rattle.x86.specs.Grammar.{first, later, Opens, one_byte, two_byte, Spells, byte, long, Displaces, not_at_all, by, fields, Addresses, based, scaled, Names, register, memory, Follows, nothing, immediate, operand, both, Encodes, encoding}
+use Rattle.x86.specs.Laws.{Unambiguous, ClassesApart, Short, Halves, paired, mask, leave}
 use Rattle.x86.proofs.Meets.{every_encoding}
 
 same_answer : (i j : Instruction) (m n : ℕ) (o : Option Decoded) → o ≡ Some (instruction_of i m) → o ≡ Some (instruction_of j n) → (m ≡ n) × (i ≡ j)

@@ -1,6 +1,6 @@
 -- What the bytes from a place on mean. Bytes past the end read as 0: a form that would need one does not fit and is
 -- refused by its length.
-use Rattle.std.specs.Prelude.{ℕ, ◌+◌, ◌-◌, ◌*◌, ◌/◌, ◌%◌, Bool, cond, ◌&&◌, List, length, Some, None, Option, ◌==◌, nat_le, slice_index}
+use Rattle.std.specs.Prelude.{ℕ, ◌+◌, ◌-◌, ◌*◌, ◌/◌, ◌%◌, cond, ◌&&◌, List, length, Some, None, Option, ◌==◌, nat_le, slice_index}
 use Rattle.std.specs.Option.{option_map}
 use Rattle.x86.specs.declared.registers.Register.{Register}
 use Rattle.x86.specs.declared.registers.Width.{Width}

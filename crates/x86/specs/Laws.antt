@@ -1,5 +1,5 @@
 -- What holds between the decoder's answers and the grammar.
-use Rattle.std.specs.Prelude.{◌≡◌, ℕ, ◌+◌, ◌<◌, ◌≤◌, List, [], ◌∷◌, ◌++◌, length, take, drop, Some, None, Option, ◌≢◌}
+use Rattle.std.specs.Prelude.{◌≡◌, ℕ, ◌+◌, ◌<◌, ◌≤◌, List, [], ◌∷◌, ◌++◌, length, take, drop, Some, Option, ◌≢◌}
 use Rattle.x86.specs.declared.instructions.Instruction.{Instruction}
 use Rattle.x86.specs.declared.instructions.Instruction.TheVariants.{Straight, Loose}
 use Rattle.x86.specs.declared.instructions.Decoded.{Decoded}

@@ -5,7 +5,7 @@ use Rattle.x86.specs.declared.registers.Register.TheVariants.{Eax, Ecx, Edx, Ebx
 use Rattle.x86.specs.declared.registers.ByteRegister.{ByteRegister}
 use Rattle.x86.specs.declared.registers.ByteRegister.TheVariants.{Al, Cl, Dl, Bl, Ah, Ch, Dh, Bh}
 use Rattle.x86.specs.declared.registers.SegmentRegister.{SegmentRegister}
-use Rattle.x86.specs.declared.registers.SegmentRegister.TheVariants.{Es, Cs, Ss, Ds, Fs, Gs}
+use Rattle.x86.specs.declared.registers.SegmentRegister.TheVariants.{Es, Ss, Ds, Fs, Gs}
 use Rattle.x86.specs.declared.registers.Width.{Width}
 use Rattle.x86.specs.declared.registers.Width.TheVariants.{Byte, Long}
 use Rattle.x86.specs.declared.registers.Operation.{Operation}

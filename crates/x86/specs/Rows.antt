@@ -1,6 +1,6 @@
 -- The opcode map as a list of rows. A new opcode is a new row; where reg or mod decides (80 to 83, 8D, 8E, C6, C7, FF), the
 -- form's meaning has a line for each.
-use Rattle.std.specs.Prelude.{ℕ, ◌+◌, ◌*◌, ◌/◌, ◌%◌, Bool, true, false, cond, ◌&&◌, List, [], ◌∷◌, Some, None, Option, ◌==◌, nat_le}
+use Rattle.std.specs.Prelude.{ℕ, ◌+◌, ◌/◌, ◌%◌, Bool, cond, ◌&&◌, List, [], ◌∷◌, Some, None, Option, ◌==◌, nat_le}
 use Rattle.x86.specs.declared.registers.Width.TheVariants.{Byte, Long}
 use Rattle.x86.specs.declared.forms.Direction.TheVariants.{IntoOperand, IntoRegister}
 use Rattle.x86.specs.declared.forms.Alone.TheVariants as alone

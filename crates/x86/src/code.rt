@@ -43,7 +43,7 @@ impl Code for &[u8] {
 /// That the numbers that a source means are bytes is known where they are read, and nowhere else. So this reads them, and
 /// its contract is the fact; the loop has no effect, and for a slice or a `Vec` it compiles to nothing.
 pub fn octets<C: Code>(code: &C, from: usize, to: usize)
-    ensures { Octets (bytes code.now) from to }
+    ensures { Octets (C.bytes code.now) from to }
 {
     for i in from..to {
         let _byte = code.byte(i);

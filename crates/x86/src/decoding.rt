@@ -13,7 +13,7 @@ use crate::registers::{Register, Scale, Width};
 
 fn long<C: Code>(code: &C, at: usize) -> u32
     requires { at < 2 ^ 33 }
-    ensures { result ≡ long_at (bytes code.now) at }
+    ensures { result ≡ long_at (C.bytes code.now) at }
 {
     let low = u32::from(code.byte(at)) + 256 * u32::from(code.byte(at + 1));
     let high = u32::from(code.byte(at + 2)) + 256 * u32::from(code.byte(at + 3));
@@ -22,7 +22,7 @@ fn long<C: Code>(code: &C, at: usize) -> u32
 
 fn value<C: Code>(code: &C, at: usize, width: Width) -> u32
     requires { at < 2 ^ 33 }
-    ensures { result ≡ value_at width (bytes code.now) at }
+    ensures { result ≡ value_at width (C.bytes code.now) at }
 {
     match width {
         Width::Byte => u32::from(code.byte(at)),
@@ -32,7 +32,7 @@ fn value<C: Code>(code: &C, at: usize, width: Width) -> u32
 
 /// The number of a width that stands `offset` bytes behind an address, lowest byte first.
 pub fn number_at<C: Code>(code: &C, at: u32, offset: u32, width: Width) -> u32
-    ensures { result ≡ value_at width (bytes code.now) (at + offset) }
+    ensures { result ≡ value_at width (C.bytes code.now) (at + offset) }
 {
     value(code, at as usize + offset as usize, width)
 }
@@ -51,7 +51,7 @@ fn displacement_width(mode: u8, number: u8) -> Option<Width>
 
 fn displacement<C: Code>(code: &C, at: usize, width: Option<Width>) -> (Option<u32>, usize)
     requires { at < 2 ^ 33 }
-    ensures value { result ≡ displacement_at width (bytes code.now) at }
+    ensures value { result ≡ displacement_at width (C.bytes code.now) at }
     ensures bound { (at ≤ result.1) × (result.1 ≤ at + 4) }
 {
     match width {
@@ -89,7 +89,7 @@ fn index(scale: u8, number: u8) -> Index
 
 fn address<C: Code>(code: &C, at: usize, mode: u8, rm: u8) -> (Address, usize)
     requires { at + 1 < 2 ^ 33 }
-    ensures value { result ≡ address_at (bytes code.now) at mode rm }
+    ensures value { result ≡ address_at (C.bytes code.now) at mode rm }
     ensures bound { (at ≤ result.1) × (result.1 ≤ at + 5) }
 {
     if rm == 4 {
@@ -119,7 +119,7 @@ fn address<C: Code>(code: &C, at: usize, mode: u8, rm: u8) -> (Address, usize)
 
 fn modrm<C: Code>(code: &C, at: usize) -> Modrm
     requires { at + 2 < 2 ^ 33 }
-    ensures value { result ≡ modrm_at (bytes code.now) at }
+    ensures value { result ≡ modrm_at (C.bytes code.now) at }
     ensures bound { (at ≤ result.end) × (result.end ≤ at + 6) }
 {
     let byte = code.byte(at);
@@ -143,7 +143,7 @@ fn modrm<C: Code>(code: &C, at: usize) -> Modrm
 // The instruction of a form, from the place after its opcode on, and the place after it.
 fn formed<C: Code>(code: &C, at: usize, form: Form, number: u8) -> Option<(Instruction, usize)>
     requires { at < 2 ^ 32 + 16 }
-    ensures value { result ≡ form_at (bytes code.now) at form number }
+    ensures value { result ≡ form_at (C.bytes code.now) at form number }
     ensures bound { IfSome result (λ x. (at ≤ x.1) × (x.1 ≤ at + 10)) }
 {
     match form {
@@ -176,7 +176,7 @@ fn formed<C: Code>(code: &C, at: usize, form: Form, number: u8) -> Option<(Instr
 
 fn read<C: Code>(code: &C, at: usize) -> Option<(Instruction, usize)>
     requires { at < 2 ^ 32 }
-    ensures value { result ≡ read_at (bytes code.now) at }
+    ensures value { result ≡ read_at (C.bytes code.now) at }
     ensures bound { IfSome result (λ x. (at < x.1) × (x.1 ≤ at + 12)) }
 {
     let opcode = code.byte(at);
@@ -190,8 +190,8 @@ fn read<C: Code>(code: &C, at: usize) -> Option<(Instruction, usize)>
 
 // The instruction at a place, if it ends inside the bytes.
 fn bounded<C: Code>(code: &C, at: u32) -> Option<Decoded>
-    ensures value { result ≡ decoded_at (bytes code.now) at }
-    ensures inside { IfSome result (λ d. Inside (bytes code.now) at d.length) }
+    ensures value { result ≡ decoded_at (C.bytes code.now) at }
+    ensures inside { IfSome result (λ d. Inside (C.bytes code.now) at d.length) }
 {
     let start = at as usize;
     let (instruction, end) = read(code, start)?;
@@ -207,10 +207,10 @@ fn bounded<C: Code>(code: &C, at: u32) -> Option<Decoded>
 
 /// The instruction at an address and its length; none where no form matches, or the form runs past the end.
 pub fn decode<C: Code>(code: &C, at: u32) -> Option<Decoded>
-    ensures value { result ≡ decoded_at (bytes code.now) at }
-    ensures inside { IfSome result (λ d. Inside (bytes code.now) at d.length) }
-    ensures every { EveryEncoding (bytes code.now) at result }
-    ensures only { OnlyEncodings (bytes code.now) at result }
+    ensures value { result ≡ decoded_at (C.bytes code.now) at }
+    ensures inside { IfSome result (λ d. Inside (C.bytes code.now) at d.length) }
+    ensures every { EveryEncoding (C.bytes code.now) at result }
+    ensures only { OnlyEncodings (C.bytes code.now) at result }
 {
     let decoded = bounded(code, at)?;
     octets(code, at as usize, at as usize + decoded.length as usize);

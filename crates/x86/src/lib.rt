@@ -1,5 +1,7 @@
 //! The instruction grammar of a module and its decoder. This crate knows bytes only: nothing of a gate, a memory or a
 //! machine.
+#![tactic(auto)]
+
 pub mod code;
 pub mod decoding;
 pub mod forms;

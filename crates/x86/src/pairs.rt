@@ -48,7 +48,7 @@ impl Pair {
 // 83, a byte that names a register other than ESP, E0, FF
 fn masked<C: Code>(code: &C, at: usize) -> bool
     requires { at < 2 ^ 32 }
-    ensures { result ≡ masks (bytes code.now) at }
+    ensures { result ≡ masks (C.bytes code.now) at }
 {
     let named = code.byte(at + 1);
     code.byte(at) == 0x83
@@ -81,8 +81,8 @@ fn transferred(number: u8, byte: u8) -> Option<Pair>
 
 // The pair at a place, if it ends inside the bytes.
 fn bounded<C: Code>(code: &C, at: u32) -> Option<Pair>
-    ensures value { result ≡ pair_at (bytes code.now) at }
-    ensures inside { OnSome result (Inside (bytes code.now) at 5) }
+    ensures value { result ≡ pair_at (C.bytes code.now) at }
+    ensures inside { OnSome result (Inside (C.bytes code.now) at 5) }
 {
     let start = at as usize;
     if start + 5 > code.len() || !masked(code, start) {
@@ -93,10 +93,10 @@ fn bounded<C: Code>(code: &C, at: u32) -> Option<Pair>
 
 /// The pair at an address; none where the bytes there are no pair, or run past the end.
 pub fn recognise<C: Code>(code: &C, at: u32) -> Option<Pair>
-    ensures value { result ≡ pair_at (bytes code.now) at }
-    ensures inside { OnSome result (Inside (bytes code.now) at 5) }
-    ensures every { EveryPair (bytes code.now) at result }
-    ensures only { OnlyPairs (bytes code.now) at result }
+    ensures value { result ≡ pair_at (C.bytes code.now) at }
+    ensures inside { OnSome result (Inside (C.bytes code.now) at 5) }
+    ensures every { EveryPair (C.bytes code.now) at result }
+    ensures only { OnlyPairs (C.bytes code.now) at result }
 {
     bounded(code, at)
 }

@@ -4,24 +4,24 @@ use Rattle.x86.specs.Laws.{Inside}
 use Rattle.automata.proofs.Agrees.{direct_agrees, direct_inside}
 use Rattle.automata.proofs.lengths.direct_length.Goals as goal
 
-pub returns-in-err-length : goal.returns-in-err-length
-returns-in-err-length g c =
+pub returns-in_err-length : goal.returns-in_err-length
+returns-in_err-length g c =
     record {
-      value = c.from-residual.ensures ∙ c.in-err-length.ensures ∙ direct_agrees (g.C.Code.bytes c.args.code.now) c.args.at;
+      value = c.from_residual.ensures ∙ c.in_err-length.ensures ∙ direct_agrees (g.C.Code.bytes c.args.code.now) c.args.at;
       inside =
-          subst (λ (r : Option ℕ). IfSome r (λ n. Inside (g.C.Code.bytes c.args.code.now) c.args.at n)) (sym c.from-residual.ensures) tt;
+          subst (λ (r : Option ℕ). IfSome r (λ n. Inside (g.C.Code.bytes c.args.code.now) c.args.at n)) (sym c.from_residual.ensures) tt;
     }
 
 pub overflow-cast-result : goal.overflow-cast-result
 overflow-cast-result g c =
-    let v = c.in-ok-length.ensures ∙ direct_agrees (g.C.Code.bytes c.args.code.now) c.args.at in
-    let s = direct_inside (g.C.Code.bytes c.args.code.now) c.args.at c.in-ok-length.length (sym v) in
+    let v = c.in_ok-length.ensures ∙ direct_agrees (g.C.Code.bytes c.args.code.now) c.args.at in
+    let s = direct_inside (g.C.Code.bytes c.args.code.now) c.args.at c.in_ok-length.length (sym v) in
     omega (arith, s.1)
 
 pub returns : goal.returns
 returns g c =
-    let v = c.in-ok-length.ensures ∙ direct_agrees (g.C.Code.bytes c.args.code.now) c.args.at in
+    let v = c.in_ok-length.ensures ∙ direct_agrees (g.C.Code.bytes c.args.code.now) c.args.at in
     record {
       value = v;
-      inside = (direct_inside (g.C.Code.bytes c.args.code.now) c.args.at c.in-ok-length.length (sym v)).0;
+      inside = (direct_inside (g.C.Code.bytes c.args.code.now) c.args.at c.in_ok-length.length (sym v)).0;
     }

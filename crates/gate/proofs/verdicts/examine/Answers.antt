@@ -10,9 +10,9 @@ walk-requires g c = record {
   clear = (unmarked_again _ _ _ c.clear.ensures, unmarked_again _ _ _ c.clear-2.ensures);
 }
 
-pub returns-in-err-walk : goal.returns-in-err-walk
-returns-in-err-walk g c =
-    let w = c.in-err-walk.ensures in
+pub returns-in_err-walk : goal.returns-in_err-walk
+returns-in_err-walk g c =
+    let w = c.in_err-walk.ensures in
     record {
       value = search rules;
       starts = search rules;
@@ -22,7 +22,7 @@ returns-in-err-walk g c =
 
 pub returns : goal.returns
 returns g c =
-    let w = c.in-ok-walk.ensures in
+    let w = c.in_ok-walk.ensures in
     let m = marks_show _ _ _ _ _ _ (sym c.requires.size.0 ∙ c.requires.size.1.0) (w.starts refl) (w.targets refl) in
     record {
       value = c.compare.ensures ∙ ap answer (m ∙ sym (found_after _ c.args.row (passed _ w.value)));
