@@ -1,11 +1,11 @@
 -- What a walk answers, by the grammar.
-use Rattle.std.proofs.Common.{◌≡◌, ℕ, ◌+◌, ◌<◌, ◌≤◌, Bool, true, false, cond, ◌&&◌, leb, List, length, drop, Some, None, Option, sym, refl, ap, ◌∙◌, subst, arith, leb-true}
+use Rattle.std.proofs.Common.{◌≡◌, ℕ, ◌+◌, ◌≤◌, Bool, true, false, cond, ◌&&◌, leb, List, length, drop, Some, None, Option, sym, refl, ap, ◌∙◌, subst, arith, leb-true}
 use Rattle.x86.specs.declared.instructions.Instruction.{Instruction}
 use Rattle.x86.specs.declared.instructions.Instruction.TheVariants.{Straight, Direct, Loose}
 use Rattle.x86.specs.declared.instructions.Decoded.{Decoded}
 use Rattle.x86.specs.declared.pairs.Pair.{Pair}
 use Rattle.x86.specs.Decoded.{decoded_at}
-use Rattle.x86.specs.Pairs.{masks, transfer_at, pair_at}
+use Rattle.x86.specs.Pairs.{masks}
 use Rattle.x86.specs.Laws.{Inside}
 use Rattle.x86.proofs.Meets.{decoded_inside}
 use Rattle.x86.proofs.Shift.{shift_decoded, shift_pair}

@@ -1,5 +1,5 @@
 -- The run over the table of direct forms answers the length that the grammar gives.
-use Rattle.std.proofs.Common.{◌≡◌, ℕ, zero, suc, ◌+◌, ◌-◌, ◌/◌, ◌%◌, ◌<◌, ◌≤◌, Bool, true, false, cond, eqb, leb, List, [], ◌∷◌, length, get_or, Some, None, Option, sym, refl, ap, ◌∙◌, subst, arith}
+use Rattle.std.proofs.Common.{◌≡◌, ℕ, zero, suc, ◌+◌, ◌-◌, ◌%◌, ◌<◌, ◌≤◌, Bool, true, false, cond, eqb, leb, List, [], ◌∷◌, length, get_or, Some, None, Option, refl, ap, ◌∙◌, arith}
 use Rattle.std.specs.Option.{option_map}
 use Rattle.x86.specs.declared.registers.Width.{Width}
 use Rattle.x86.specs.declared.registers.Width.TheVariants.{Byte, Long}
@@ -22,15 +22,15 @@ use Rattle.x86.specs.declared.forms.WithBoth.TheVariants as both
 use Rattle.x86.specs.declared.forms.Form.{Form}
 use Rattle.x86.specs.declared.forms.Form.TheVariants.{Alone, WithImmediate, WithOperand, WithBoth}
 use Rattle.x86.specs.Numbers.{register_of, segment_of, width_bytes}
-use Rattle.x86.specs.Meanings.{alone_means, operand_means, through_means, address_means, segment_means, both_means}
+use Rattle.x86.specs.Meanings.{alone_means, operand_means, both_means}
 use Rattle.x86.specs.Decoded.{within, form_at, row_at, decoded_at, instruction_of}
 use Rattle.x86.specs.Rows as opcodes
 use Rattle.x86.specs.Rows.{look_up, one_byte_rows, two_byte_rows}
 use Rattle.automata.specs.Lengths.{of_direct}
 use Rattle.automata.specs.Runs.{reached, run}
-use Rattle.automata.specs.Directs.{State, rejecting, accepting, starting, left, second, after, behind_form, behind, next, place, states, direct_next}
+use Rattle.automata.specs.Directs.{State, rejecting, left, second, after, behind_form, behind, next, place, states, direct_next}
 use Rattle.automata.proofs.Walked.{goes_on}
-use Rattle.automata.proofs.Counted.{fits, fits_suc, fits_none, fits_one, fits_as, down, counts_down}
+use Rattle.automata.proofs.Counted.{fits, fits_suc, fits_one, fits_as, down, counts_down}
 
 -- a state is found at its number
 found_left : (n : ℕ) → n < 4 → get_or states (place (left n)) rejecting ≡ left n

@@ -1,5 +1,5 @@
 -- The run over the table of pairs answers the length that the grammar gives.
-use Rattle.std.proofs.Common.{◌≡◌, ℕ, zero, suc, ◌+◌, ◌-◌, ◌<◌, ◌≤◌, Bool, true, false, cond, not, ◌&&◌, ◌||◌, eqb, leb, List, [], ◌∷◌, length, get_or, Some, None, Option, sym, refl, ap, ◌∙◌, subst, arith, le-leb, leb-true}
+use Rattle.std.proofs.Common.{◌≡◌, ℕ, zero, suc, ◌+◌, ◌-◌, ◌<◌, ◌≤◌, Bool, true, false, cond, not, ◌&&◌, ◌||◌, eqb, leb, List, [], ◌∷◌, length, get_or, Some, None, Option, sym, refl, ap, ◌∙◌, arith, le-leb, leb-true}
 use Rattle.std.specs.Option.{option_map}
 use Rattle.x86.specs.declared.pairs.Transfer.TheVariants.{Jump, Call}
 use Rattle.x86.specs.declared.pairs.Pair.{Pair}
@@ -7,7 +7,7 @@ use Rattle.x86.specs.Numbers.{register_of}
 use Rattle.x86.specs.Pairs.{pair_of, transfer_at, masks, pair_at}
 use Rattle.automata.specs.Lengths.{of_pair}
 use Rattle.automata.specs.Runs.{reached, run}
-use Rattle.automata.specs.Masks.{State, rejecting, accepting, starting, naming, masking, leaving, through, next, place, states, pair_next}
+use Rattle.automata.specs.Masks.{State, rejecting, accepting, naming, masking, leaving, through, next, place, states, pair_next}
 use Rattle.automata.proofs.Walked.{goes_on}
 
 -- a state is found at its number

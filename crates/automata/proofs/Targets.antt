@@ -1,5 +1,5 @@
 -- The displacement of a direct form stands in its last bytes.
-use Rattle.std.proofs.Common.{◌≡◌, ℕ, ◌+◌, ◌-◌, ◌%◌, ◌^◌, ◌<◌, ◌≤◌, Bool, true, false, cond, eqb, leb, List, length, get_or, Some, None, Option, sym, refl, ap, ◌∙◌, subst, arith, leb-true}
+use Rattle.std.proofs.Common.{◌≡◌, ℕ, ◌+◌, ◌-◌, ◌%◌, ◌^◌, Bool, true, false, cond, eqb, leb, List, length, get_or, Some, None, Option, sym, refl, ap, ◌∙◌, subst, arith}
 use Rattle.std.specs.Option.{option_map}
 use Rattle.x86.specs.declared.registers.Width.{Width}
 use Rattle.x86.specs.declared.registers.Width.TheVariants.{Byte, Long}
@@ -7,7 +7,6 @@ use Rattle.x86.specs.declared.registers.SegmentRegister.{SegmentRegister}
 use Rattle.x86.specs.declared.operands.RegisterOrMemory.{RegisterOrMemory}
 use Rattle.x86.specs.declared.operands.RegisterOrMemory.TheVariants.{Register, Memory}
 use Rattle.x86.specs.declared.instructions.Straight.{Straight as StraightForm}
-use Rattle.x86.specs.declared.instructions.Direct.{Direct as DirectForm}
 use Rattle.x86.specs.declared.instructions.Loose.TheVariants as loose
 use Rattle.x86.specs.declared.instructions.Instruction.{Instruction}
 use Rattle.x86.specs.declared.instructions.Instruction.TheVariants.{Straight, Direct, Loose}
@@ -25,10 +24,10 @@ use Rattle.x86.specs.declared.forms.Form.TheVariants.{Alone, WithImmediate, With
 use Rattle.x86.specs.Numbers.{register_of, segment_of, width_bytes}
 use Rattle.x86.specs.Meanings.{extended, alone_means, immediate_width, immediate_means, operand_means, both_means}
 use Rattle.x86.specs.Decoded.{value_at, form_at, row_at, read_at, within, decoded_at, instruction_of}
-use Rattle.x86.specs.Instructions.{displacement_of, target_from}
+use Rattle.x86.specs.Instructions.{displacement_of}
 use Rattle.x86.specs.Rows as opcodes
 use Rattle.x86.specs.Rows.{look_up, one_byte_rows, two_byte_rows}
-use Rattle.automata.specs.Lengths.{if_direct, of_direct, direct_length_of, target_in, direct_target_of, aim_width, displacement_in}
+use Rattle.automata.specs.Lengths.{if_direct, of_direct, direct_length_of, target_in, direct_target_of, aim_width}
 
 -- only a direct form is in question
 abbrev Aims : List ℕ → ℕ → ℕ → Instruction → Type 0

@@ -1,8 +1,8 @@
 -- A walk does the run's work: what is left to do gives the same answer as all of it.
-use Rattle.std.proofs.Common.{◌≡◌, ℕ, zero, suc, ◌+◌, ◌-◌, ◌<◌, ◌≤◌, Bool, true, false, cond, eqb, List, [], ◌∷◌, length, get_or, drop, Some, None, Option, sym, refl, ap, ◌∙◌, subst, add-one, arith, drop-cons, eq-eqb, ne_eqb}
+use Rattle.std.proofs.Common.{◌≡◌, ℕ, suc, ◌+◌, ◌-◌, ◌<◌, ◌≤◌, eqb, List, length, get_or, drop, Some, None, Option, sym, refl, ap, ◌∙◌, arith, drop-cons, ne_eqb}
 use Rattle.std.proofs.lemmas.List.{drop_all}
 use Rattle.std.specs.Option.{option_map}
-use Rattle.x86.proofs.Complete.{chosen, passed_over}
+use Rattle.x86.proofs.Complete.{passed_over}
 use Rattle.automata.specs.Runs.{reached, run}
 
 -- k bytes more

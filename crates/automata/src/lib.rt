@@ -1,5 +1,7 @@
 //! Which pair, straight form or direct form stands at an address of some bytes, and how long it is, decided by three
 //! constant tables.
+#![tactic(auto)]
+
 pub mod lengths;
 mod patterns;
 mod tables;

@@ -3,7 +3,7 @@ ghost use Rattle.std.specs.Prelude.{◌≡◌};
 ghost use Rattle.automata.specs.Straights.{straight_next};
 ghost use Rattle.automata.specs.Directs.{direct_next};
 ghost use Rattle.automata.specs.Masks.{pair_next};
-ghost use Rattle.std.proofs.Common.{rules};
+ghost use Rattle.std.proofs.Common.{ltb→lt};
 
 use crate::tables::{DIRECT, PAIR, STRAIGHT};
 use crate::walks::Automaton;
@@ -16,7 +16,7 @@ impl Automaton for Straights {
 
     ghost next = { λ _. straight_next };
 
-    ghost starts = { Prim.search rules };
+    ghost starts = { λ _. ltb→lt 2 21 tt };
 
     fn step(&self, state: usize, byte: u8) -> usize {
         STRAIGHT[state][byte as usize] as usize
@@ -31,7 +31,7 @@ impl Automaton for Directs {
 
     ghost next = { λ _. direct_next };
 
-    ghost starts = { Prim.search rules };
+    ghost starts = { λ _. ltb→lt 2 8 tt };
 
     fn step(&self, state: usize, byte: u8) -> usize {
         DIRECT[state][byte as usize] as usize
@@ -46,7 +46,7 @@ impl Automaton for Pairs {
 
     ghost next = { λ _. pair_next };
 
-    ghost starts = { Prim.search rules };
+    ghost starts = { λ _. ltb→lt 2 28 tt };
 
     fn step(&self, state: usize, byte: u8) -> usize {
         PAIR[state][byte as usize] as usize

@@ -12,8 +12,8 @@ returns-in_err-length g c =
           subst (λ (r : Option ℕ). IfSome r (λ n. Inside (g.C.Code.bytes c.args.code.now) c.args.at n)) (sym c.from_residual.ensures) tt;
     }
 
-pub overflow-cast-result : goal.overflow-cast-result
-overflow-cast-result g c =
+pub overflow_cast-result : goal.overflow_cast-result
+overflow_cast-result g c =
     let v = c.in_ok-length.ensures ∙ straight_agrees (g.C.Code.bytes c.args.code.now) c.args.at in
     let s = straight_inside (g.C.Code.bytes c.args.code.now) c.args.at c.in_ok-length.length (sym v) in
     omega (arith, s.1)

@@ -1,5 +1,5 @@
-use Rattle.std.proofs.Common.{◌≡◌, ℕ, ◌<◌, ◌≤◌, length, get_or, ap, ◌∙◌, arith}
-use Rattle.automata.proofs.Walked.{plus_none, turn, accepts, rejects, runs_out}
+use Rattle.std.proofs.Common.{ℕ, ◌<◌, ◌≤◌, length, ap, ◌∙◌, arith}
+use Rattle.automata.proofs.Walked.{turn, accepts, rejects, runs_out}
 use Rattle.automata.proofs.walks.walk.Goals as goal
 
 pub returns-then-state-eq-ACCEPT : goal.returns-then-state-eq-ACCEPT
