@@ -1,5 +1,5 @@
 -- An image passes exactly when it meets the policy.
-use Rattle.std.proofs.Common.{◌≡◌, ℕ, ◌/◌, ◌≤◌, Bool, true, false, not, ◌&&◌, leb, List, length, is_some, is_ok, Some, None, Ok, Err, Option, Result, sym, refl, ap, ◌∙◌, arith, le-leb}
+use Rattle.std.proofs.Common.{◌≡◌, ℕ, ◌/◌, ◌≤◌, Bool, true, false, not, ◌&&◌, leb, List, length, is_some, is_ok, Some, None, Option, Result, sym, refl, ap, ◌∙◌, arith, le-leb}
 use Rattle.std.specs.Option.{option_or}
 use Rattle.x86.specs.Octets.{Octets}
 use Rattle.gate.specs.declared.entries.EntryRow.{EntryRow}

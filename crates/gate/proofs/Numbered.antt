@@ -1,5 +1,5 @@
 -- A refusal in a verdict, by its numbers.
-use Rattle.std.proofs.Common.{◌≡◌, ℕ, Some, None, Ok, Err, Option, Result, unwrap_or, sym, refl, ap, ◌∙◌, arith}
+use Rattle.std.proofs.Common.{◌≡◌, ℕ, Some, None, Err, Option, unwrap_or, ap, arith}
 use Rattle.gate.specs.declared.refusals.Refusal.{Refusal}
 use Rattle.gate.specs.Exports.{number_in, address_in}
 use Rattle.gate.specs.Refusals.{number_of, address_of}

@@ -1,5 +1,5 @@
 -- Marks: a bit for each address, eight to a byte, the lowest bit first.
-use Rattle.std.specs.Prelude.{ℕ, zero, suc, ◌+◌, ◌*◌, ◌/◌, ◌%◌, ◌^◌, Bool, cond, List, [], ◌∷◌, set, ◌==◌, bit_or, slice_index, slice_set}
+use Rattle.std.specs.Prelude.{ℕ, zero, suc, ◌+◌, ◌*◌, ◌/◌, ◌%◌, ◌^◌, Bool, cond, List, [], ◌∷◌, ◌==◌, bit_or, slice_index, slice_set}
 
 -- the number whose n lowest bits are f 0, f 1 and so on
 unfoldable pub bits : (ℕ → Bool) → ℕ → ℕ

@@ -1,5 +1,7 @@
 //! The gate: which images pass the aligned sandbox policy. All knowledge of instructions is below, in the lengths and
 //! targets that the tables answer.
+#![tactic(auto)]
+
 pub mod elements;
 pub mod entries;
 pub mod exports;

@@ -1,5 +1,6 @@
 //! Reads cases for the gate, one a line, and prints what it answers and what both marks buffers then hold. A case is
 //! `IMAGE BASE COUNT STARTS TARGETS`: bytes as hexadecimal digits, `-` for none, numbers in decimal.
+#![tactic(auto)]
 use gate::entries::EntryRow;
 use gate::refusals::Refusal;
 use gate::verdicts::judge;

@@ -1,2 +1,3 @@
 //! The lines that list a module.
+#![tactic(auto)]
 pub mod lines;

@@ -9,5 +9,5 @@ returns g c =
       value = e.value;
       starts = e.starts;
       targets = e.targets;
-      policy = exactly (g.C.Code.bytes c.args.code.now) c.args.row _ _ _ c.image-octets.ensures e.value;
+      policy = exactly (g.C.Code.bytes c.args.code.now) c.args.row _ _ _ c.image_octets.ensures e.value;
     }
