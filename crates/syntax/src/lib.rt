@@ -1,6 +1,7 @@
 //! An instruction as text, in the Intel syntax that objdump writes. This crate knows no bytes and no machine: it shows
 //! what the decoder of `x86` gives.
 #![tactic(auto)]
+
 pub mod addresses;
 pub mod instructions;
 pub mod mnemonics;
