@@ -1,5 +1,5 @@
 -- The digits of a number are those of its sixteenth, and one more.
-use Rattle.std.proofs.Common.{◌≡◌, ℕ, zero, suc, ◌*◌, ◌/◌, ◌%◌, ◌^◌, ◌<◌, ◌≤◌, true, false, cond, ltb, List, [], ◌∷◌, ◌++◌, sym, ap, ◌∙◌, subst, pow-suc, arith, le-ltb, lt-ltb}
+use Rattle.std.proofs.Common.{◌≡◌, ℕ, zero, suc, ◌/◌, ◌%◌, ◌^◌, ◌<◌, ◌≤◌, cond, ltb, List, [], ◌∷◌, ◌++◌, sym, ap, ◌∙◌, subst, pow-suc, arith, le-ltb, lt-ltb}
 use lib.Utf8.{encode}
 use Rattle.std.proofs.Output.{has_written_append, has_written_of_eq, has_written_to_eq, has_written_from_eq}
 use Rattle.std.specs.declared.fmt.Formatter.{Formatter}

@@ -19,7 +19,7 @@ fn digit(n: u8) -> char
 
 // The digits in front come first, so they are written before the last one.
 fn write_digits<W: fmt::Write>(n: u32, f: &mut fmt::Formatter<W>) -> fmt::Result
-    ensures { WritesOnOk write_str_gives f.old result (digits_text n) f.new }
+    ensures { WritesOnOk W.write_str_gives f.old result (digits_text n) f.new }
 {
     if n >= 16 {
         write_digits(n / 16, f)?;

@@ -1,5 +1,5 @@
 -- The last digit comes after those in front, if there are any.
-use Rattle.std.proofs.Common.{refl, arith}
+use Rattle.std.proofs.Common.{refl}
 use Rattle.syntax.proofs.HexDigits.{puts_last, puts_only}
 use Rattle.syntax.proofs.numbers.+write_digits.Goals as goal
 use Rattle.syntax.proofs.numbers.+write_digits.Goals.{then-n-ge16+in_ok-write_digits, else-n-ge16}
