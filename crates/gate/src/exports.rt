@@ -1,4 +1,4 @@
-//! The verdict for callers in C.
+//! The verdict in numbers, for callers in C: the crate `gate_c` exports it.
 ghost use Rattle.std.specs.Prelude.{◌≡◌, length};
 ghost use Rattle.std.specs.Option.{unwrap_or};
 ghost use Rattle.gate.specs.Exports.{number_in, address_in};
@@ -27,8 +27,7 @@ fn refused(refusal: Refusal) -> Verdict
 }
 
 /// Judges an image as `judge` does.
-#[unsafe(no_mangle)]
-pub extern "C" fn gate_judge(
+pub fn gate_judge(
     image: &[u8],
     base: u32,
     count: u32,

@@ -1,6 +1,7 @@
 //! The program: reads a script from the file that its first argument names or from standard input, carries out each line,
 //! and prints what came of it. What matters is in the libraries below.
 #![tactic(auto)]
+
 mod files;
 mod marks;
 mod session;
