@@ -2,10 +2,14 @@
 # Programs that misuse a pass must be refused by the compiler, and one that uses it rightly must be proved. Each
 # tools/misuse/NAME.ERROR.txt has to fail with error[ERROR] before anything reaches the prover.
 #
-#     rt check gate && tools/check_misuse.sh
+#     (cd crates/gate && rt check) && tools/check_misuse.sh
 set -u
 top=$(cd "$(dirname "$0")/.." && pwd -P)
 work=$(mktemp -d)
+libraries=(--extern "gate=$top/crates/gate/out/rlib/gate.rlib")
+for library in x86 automata gate; do
+    libraries+=(-L "dependency=$top/crates/$library/out/rlib")
+done
 trap 'rm -rf "$work"' EXIT
 bad=0
 for file in "$top"/tools/misuse/*.txt; do
@@ -14,7 +18,7 @@ for file in "$top"/tools/misuse/*.txt; do
     want=${name#*.}
     mkdir -p "$work/$crate/src"
     cp "$file" "$work/$crate/src/lib.rt"
-    rt check "$work/$crate" --extern "gate=$top/target/rlib/gate.rlib" -L "dependency=$top/target/rlib" >"$work/log" 2>&1
+    (cd "$work/$crate" && rt check "$crate" "${libraries[@]}") >"$work/log" 2>&1
     status=$?
     if [ "$name" = good ]; then
         if [ $status -eq 0 ] && grep -q '^logic=proved' "$work/log"; then

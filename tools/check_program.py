@@ -1,16 +1,16 @@
 #!/usr/bin/env python3
-"""Runs target/bin/volga on lines that cannot be carried out, which `rt ci` cannot do since the status is then 1: each
+"""Runs crates/volga/out/volga on lines that cannot be carried out, which `rt ci` cannot do since the status is then 1: each
 answers `error line L: WHY`, the rest of the script is carried out, and the status is 1. Also: a script from standard
 input, a file of bytes, and the time that a listing of 65,536 bytes takes.
 
-    rt check volga && tools/check_program.py"""
+    (cd crates/volga && rt run </dev/null) && tools/check_program.py"""
 import os
 import subprocess
 import sys
 import tempfile
 import time
 
-PROGRAM = "target/bin/volga"
+PROGRAM = "crates/volga/out/volga"
 # each line of a script, and what is wrong with it (or the answer)
 LINES = [
     (b"list", "error: no module was taken yet"),

@@ -2,7 +2,7 @@
 """Compares our gate with tools/second_gate.py over random images, rows and marks buffers: the verdict, its address and
 every byte of both buffers afterwards.
 
-    rt check gate_runs && tools/compare_gates.py [--seed S] [--count N]
+    (cd crates/gate_runs && rt run </dev/null) && tools/compare_gates.py [--seed S] [--count N]
     tools/compare_gates.py --self-test [--seed S] [--count N]
 
 The images are laid out of pairs, straight forms and direct forms, whole, astray or damaged; some are plain random bytes.
@@ -18,7 +18,7 @@ from pathlib import Path
 
 from second_gate import judge
 
-PROGRAM = "target/bin/gate_runs"
+PROGRAM = "crates/gate_runs/out/gate_runs"
 PAGE = Path(__file__).resolve().parent.parent / "docs" / "gate.md"
 BATCH = 4000
 OFTEN = 200

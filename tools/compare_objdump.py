@@ -2,7 +2,7 @@
 """Compares our decoder and Intel syntax with GNU objdump's, over every first byte, every second byte, and behind each
 form that has a ModRM byte every SIB byte, with displacements and immediates of both signs.
 
-    rt check x86_vectors && tools/compare_objdump.py
+    (cd crates/x86_vectors && rt run </dev/null) && tools/compare_objdump.py
 
 Ours has to answer class, length and text where docs/grammar.md has a form, and nothing where it has none; length and
 text have to be objdump's. A form's class and length are also compared with tools/grammar.py."""
@@ -12,7 +12,7 @@ import sys
 from grammar import form, has_modrm
 from objdump import disassemble
 
-PROGRAM = "target/bin/x86_vectors"
+PROGRAM = "crates/x86_vectors/out/x86_vectors"
 TAILS = [
     bytes.fromhex("0000000000000000"),
     bytes.fromhex("0403020107060508"),

@@ -1,8 +1,8 @@
 //! Times the gate against the same gate in plain Rust: the tables are read from crates/automata/src/tables.rt, so both walk
 //! the same ones. Answers and marks are compared first.
 //!
-//!     rt staticlib gate
-//!     rustc -O -o target/gate_times tools/gate_times.rs -L target/staticlib -L KIT/lib -l static=gate -l static=rattle_c
+//!     (cd crates/gate_c && rt lib) && mkdir -p target && cp crates/gate_c/out/libgate_c.a target/libgate.a
+//!     rustc -O -o target/gate_times tools/gate_times.rs -L target -l static=gate
 //!     target/gate_times
 use std::time::Instant;
 

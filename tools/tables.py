@@ -1,7 +1,7 @@
 #!/usr/bin/env python3
 """Writes crates/automata/src/tables.rt, the three transition tables, from the description of the forms below.
 
-    tools/tables.py && rt fmt
+    tools/tables.py && (cd crates/automata && rt fmt)
 
 A state is what is still to come; reading a byte leads to another. That each entry is right is proved: the rule in
 crates/automata/specs is computed over each whole table."""
