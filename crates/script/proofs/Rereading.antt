@@ -3,7 +3,7 @@ use Rattle.std.proofs.Common.{◌≡◌, ℕ, ◌+◌, ◌*◌, ◌/◌, ◌%◌
 use lib.Seq.{take-length, drop-length, append_snoc}
 use Rattle.std.specs.List.{prefix_len, AllByRecursion as All}
 use Rattle.std.proofs.lemmas.List.{append-nil}
-use Rattle.std.proofs.lemmas.Bool.{cond-true, cond-false, not_true, le-leb, ne_eqb}
+use Rattle.std.proofs.lemmas.Bool.{cond-true, cond-false, not-true, le-leb, ne_eqb}
 use Rattle.std.proofs.lemmas.Bool.Decides.{nat_tests}
 use Rattle.script.specs.declared.problems.Problem.{Problem}
 use Rattle.script.specs.declared.parts.Part.TheVariants.{Word, Until}
@@ -30,8 +30,8 @@ all_spelled p f [] u = tt
 all_spelled p f (b ∷ bs) u = let h : b < 256 = u.0 in (f (b / 16) (omega arith), (f (b % 16) (omega arith), all_spelled p f bs u.1))
 
 one_word : (c : ℕ) (cs : List ℕ) → All (λ c. among Word c ≡ true) (c ∷ cs) → words_of (c ∷ cs) ≡ (c ∷ cs) ∷ []
-one_word c [] u = cond-false _ _ _ (not_true (is_blank c) u.0)
-one_word c (d ∷ ds) u = cond-false _ _ _ (not_true (is_blank c) u.0) ∙ cond-true _ _ _ u.1.0 ∙ ap (led c) (one_word d ds u.1)
+one_word c [] u = cond-false _ _ _ (not-true (is_blank c) u.0)
+one_word c (d ∷ ds) u = cond-false _ _ _ (not-true (is_blank c) u.0) ∙ cond-true _ _ _ u.1.0 ∙ ap (led c) (one_word d ds u.1)
 
 byte_spelled : (b : ℕ) → b < 256 → byte_of (character (b / 16)) (character (b % 16)) ≡ Ok b
 byte_spelled b h =

@@ -14,7 +14,7 @@ loop-word-init c =
 
 pub loop-word-preserved : goal.loop-word-preserved
 loop-word-preserved c =
-    gather_turn (vec_items c.loop-word.bytes) _ c.in-Some.word.now (words_of c.loop-word.words.left.now) _ c.in-Some.ensures.words c.in-ok-bytes.ensures
+    gather_turn (vec_items c.loop-word.bytes) _ c.in-Some.word.now (words_of c.loop-word.words.left.now) _ c.in-Some.ensures.words c.in_ok-bytes.ensures
     ∙ c.loop-word.invariant
 
 pub loop-word-smaller : goal.loop-word-smaller
@@ -23,7 +23,7 @@ loop-word-smaller c = omega (arith, ap length c.in-Some.ensures.words)
 pub returns : goal.returns
 returns c =
     let value : Answers vec_items (bytes_of c.args.text.now) (Ok c.loop-word.bytes) =
-    sym c.loop-word.invariant ∙ ap (groups_of (vec_items c.loop-word.bytes)) c.in-default.ensures.words in
+    sym c.loop-word.invariant ∙ ap (groups_of (vec_items c.loop-word.bytes)) c.in_default.ensures.words in
     record { value = value; spelled = reads_bytes vec_items c.args.text.now (Ok c.loop-word.bytes) value }
 
 pub returns-in-err-bytes : goal.returns-in-err-bytes

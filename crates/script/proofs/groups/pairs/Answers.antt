@@ -21,13 +21,13 @@ returns-in-err-byte c =
     ∙ no_byte (vec_items c.loop-high.bytes) c.loop-high.rest.now _ _ _ _ _ c.in-Some.ensures.cases.0 c.in-Some-split-first.ensures.cases.0 (sym c.in-err-byte.ensures))
 
 pub loop-high-smaller : goal.loop-high-smaller
-loop-high-smaller c = omega (arith, c.in-Some.ensures.cases.1, c.in-Some-split-first.ensures.cases.1)
+loop-high-smaller c = omega (arith, c.in-Some.ensures.cases.1, c.in-Some-split_first.ensures.cases.1)
 
 pub loop-high-preserved : goal.loop-high-preserved
 loop-high-preserved c =
-    one_byte (vec_items c.loop-high.bytes) _ c.loop-high.rest.now _ _ _ _ _ c.in-Some.ensures.cases.0 c.in-Some-split-first.ensures.cases.0
-    (sym c.in-ok-byte.ensures) c.in-ok-push.ensures.items
+    one_byte (vec_items c.loop-high.bytes) _ c.loop-high.rest.now _ _ _ _ _ c.in-Some.ensures.cases.0 c.in-Some-split_first.ensures.cases.0
+    (sym c.in_ok-byte.ensures) c.in_ok-push.ensures.items
     ∙ c.loop-high.invariant
 
 pub returns : goal.returns
-returns c = sym c.loop-high.invariant ∙ no_more (vec_items c.loop-high.bytes) c.loop-high.rest.now c.in-default.ensures.cases
+returns c = sym c.loop-high.invariant ∙ no_more (vec_items c.loop-high.bytes) c.loop-high.rest.now c.in_default.ensures.cases

@@ -15,9 +15,9 @@ returns-in-err-value c =
 
 pub loop-character-preserved : goal.loop-character-preserved
 loop-character-preserved c =
-    turn c.args.base c.loop-character.value _ _ c.args.digits.now c.loop-character-test.true (sym c.in-ok-value.ensures) ∙ c.loop-character.invariant
+    turn c.args.base c.loop-character.value _ _ c.args.digits.now c.loop-character-test.true (sym c.in_ok-value.ensures) ∙ c.loop-character.invariant
 
 pub returns : goal.returns
 returns c =
     sym (at_drop_all (value_of c.args.base c.loop-character.value) c.args.digits.now _ c.loop-character-test.false)
-    ∙ c.loop-character.invariant ∙ sym (cond-false _ _ _ (sym c.if-is-empty.ensures))
+    ∙ c.loop-character.invariant ∙ sym (cond-false _ _ _ (sym c.if-is_empty.ensures))
