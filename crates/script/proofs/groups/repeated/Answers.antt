@@ -20,6 +20,6 @@ returns c =
     cond-true _ _ _ (le-leb _ _ fits)
     ∙ ap Ok (sym c.loop-turn.invariant ∙ copies_end (vec_items c.loop-turn.bytes) c.args.group.now c.args.count c.loop-turn._turn c.loop-turn-test.false)
 
-pub returns-in-err-extend-from-slice : goal.returns-in-err-extend-from-slice
-returns-in-err-extend-from-slice c =
-    let p = err_from_is_err_and c.from-residual.result c.from-residual.ensures.1 in rw (p.1, p.2) (λ memory. absurd (memory refl))
+pub returns-in_err-extend_from_slice : goal.returns-in_err-extend_from_slice
+returns-in_err-extend_from_slice c =
+    let p = err_from_is_err_and c.from_residual.result c.from_residual.ensures.1 in rw (p.1, p.2) (λ memory. absurd (memory refl))
