@@ -1,4 +1,4 @@
-use Rattle.std.proofs.Common.{ℕ, ◌+◌, ◌/◌, ◌%◌, List, [], ◌∷◌, get_or, take, refl, ap, arith, take_all}
+use Rattle.std.proofs.Common.{ℕ, ◌/◌, ◌%◌, List, [], ◌∷◌, get_or, take, refl, ap, arith, take_all}
 use Rattle.std.proofs.Output.{has_written_append, has_written_of_eq}
 use Rattle.script.specs.Spelled.{character, spelling}
 use Rattle.script.proofs.Written.{spelling_more}
