@@ -7,6 +7,5 @@ pub mod Pairs
 pub mod Rereading
 pub mod Spellings
 pub mod Splits
-pub mod Texts
 pub mod Unread
 pub mod Numbered

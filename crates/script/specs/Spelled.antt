@@ -1,7 +1,7 @@
 -- How numbers and bytes are written, and that what is written so is read back.
 use Rattle.std.specs.Prelude.{◌≡◌, ℕ, ◌+◌, ◌/◌, ◌%◌, ◌^◌, ◌<◌, ◌≤◌, cond, List, [], ◌∷◌, ◌++◌, map, length, Ok, codes, decimal, Result, nat_lt}
 use Rattle.std.specs.Int.Digits.{AllBelowBase, number_from_digits}
-use Rattle.std.specs.List.{AllByRecursion as All}
+use Rattle.std.specs.List.{AllByRecursion}
 use Rattle.script.specs.declared.problems.Problem.{Problem}
 use Rattle.script.specs.Outcomes.{Answers}
 
@@ -25,4 +25,4 @@ spelling (b ∷ bs) = character (b / 16) ∷ (character (b % 16) ∷ spelling bs
 
 -- bytes that are spelled so, and are not too many, are read back
 abbrev pub ReadsBytes : {V : Type 0} → (V → List ℕ) → List ℕ → Result V Problem → Type 0
-ReadsBytes items text r = (bs : List ℕ) → All (λ b. b < 256) bs → length bs ≤ 1048576 → text ≡ spelling bs → Answers items (Ok bs) r
+ReadsBytes items text r = (bs : List ℕ) → AllByRecursion (λ b. b < 256) bs → length bs ≤ 1048576 → text ≡ spelling bs → Answers items (Ok bs) r

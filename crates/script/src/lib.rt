@@ -1,4 +1,6 @@
 //! From one line of a script to the command that it asks for. A line may hold any bytes.
+#![tactic(auto)]
+
 pub mod answers;
 pub mod commands;
 pub mod groups;

@@ -17,7 +17,7 @@ fn digit(n: u8) -> char
 }
 
 fn write_byte<W: fmt::Write>(byte: u8, f: &mut fmt::Formatter<W>) -> fmt::Result
-    ensures { WritesOnOk write_str_gives f.old result (character (byte / 16) ∷ (character (byte % 16) ∷ [])) f.new }
+    ensures { WritesOnOk W.write_str_gives f.old result (character (byte / 16) ∷ (character (byte % 16) ∷ [])) f.new }
 {
     f.write_char(digit(byte / 16))?;
     f.write_char(digit(byte % 16))

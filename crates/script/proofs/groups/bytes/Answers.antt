@@ -14,7 +14,7 @@ loop-word-init c =
 
 pub loop-word-preserved : goal.loop-word-preserved
 loop-word-preserved c =
-    gather_turn (vec_items c.loop-word.bytes) _ c.in-Some.word.now (words_of c.loop-word.words.left.now) _ c.in-Some.ensures.words c.in-ok-bytes.ensures
+    gather_turn (vec_items c.loop-word.bytes) _ c.in-Some.word.now (words_of c.loop-word.words.left.now) _ c.in-Some.ensures.words c.in_ok-bytes.ensures
     ∙ c.loop-word.invariant
 
 pub loop-word-smaller : goal.loop-word-smaller
@@ -23,14 +23,14 @@ loop-word-smaller c = omega (arith, ap length c.in-Some.ensures.words)
 pub returns : goal.returns
 returns c =
     let value : Answers vec_items (bytes_of c.args.text.now) (Ok c.loop-word.bytes) =
-    sym c.loop-word.invariant ∙ ap (groups_of (vec_items c.loop-word.bytes)) c.in-default.ensures.words in
+    sym c.loop-word.invariant ∙ ap (groups_of (vec_items c.loop-word.bytes)) c.in_default.ensures.words in
     record { value = value; spelled = reads_bytes vec_items c.args.text.now (Ok c.loop-word.bytes) value }
 
-pub returns-in-err-bytes : goal.returns-in-err-bytes
-returns-in-err-bytes c =
-    let p = err_from_is_err_and c.from-residual.result c.from-residual.ensures.1 in
-    let value : Answers vec_items (bytes_of c.args.text.now) c.from-residual.result =
+pub returns-in_err-bytes : goal.returns-in_err-bytes
+returns-in_err-bytes c =
+    let p = err_from_is_err_and c.from_residual.result c.from_residual.ensures.1 in
+    let value : Answers vec_items (bytes_of c.args.text.now) c.from_residual.result =
     rw (p.1, p.2)
     (λ memory. sym c.loop-word.invariant
-    ∙ gather_stop (vec_items c.loop-word.bytes) c.in-Some.word.now (words_of c.loop-word.words.left.now) _ _ c.in-Some.ensures.words (c.in-err-bytes.ensures memory)) in
-    record { value = value; spelled = reads_bytes vec_items c.args.text.now c.from-residual.result value }
+    ∙ gather_stop (vec_items c.loop-word.bytes) c.in-Some.word.now (words_of c.loop-word.words.left.now) _ _ c.in-Some.ensures.words (c.in_err-bytes.ensures memory)) in
+    record { value = value; spelled = reads_bytes vec_items c.args.text.now c.from_residual.result value }

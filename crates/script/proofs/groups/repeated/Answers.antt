@@ -11,15 +11,15 @@ loop-turn-init c = ap (λ (n : ℕ). vec_items c.args.bytes ++ copies n c.args.g
 
 pub loop-turn-preserved : goal.loop-turn-preserved
 loop-turn-preserved c =
-    copies_turn (vec_items c.loop-turn.bytes) _ c.args.group.now c.args.count c.loop-turn.-turn c.loop-turn-test.true c.in-ok-extend-from-slice.ensures.items
+    copies_turn (vec_items c.loop-turn.bytes) _ c.args.group.now c.args.count c.loop-turn._turn c.loop-turn-test.true c.in_ok-extend_from_slice.ensures.items
     ∙ c.loop-turn.invariant
 
 pub returns : goal.returns
 returns c =
     let fits : length (vec_items c.args.bytes) + length c.args.group.now * c.args.count ≤ 1048576 = omega (arith, c.args.bytes.ok.0) in
     cond-true _ _ _ (le-leb _ _ fits)
-    ∙ ap Ok (sym c.loop-turn.invariant ∙ copies_end (vec_items c.loop-turn.bytes) c.args.group.now c.args.count c.loop-turn.-turn c.loop-turn-test.false)
+    ∙ ap Ok (sym c.loop-turn.invariant ∙ copies_end (vec_items c.loop-turn.bytes) c.args.group.now c.args.count c.loop-turn._turn c.loop-turn-test.false)
 
-pub returns-in-err-extend-from-slice : goal.returns-in-err-extend-from-slice
-returns-in-err-extend-from-slice c =
-    let p = err_from_is_err_and c.from-residual.result c.from-residual.ensures.1 in rw (p.1, p.2) (λ memory. absurd (memory refl))
+pub returns-in_err-extend_from_slice : goal.returns-in_err-extend_from_slice
+returns-in_err-extend_from_slice c =
+    let p = err_from_is_err_and c.from_residual.result c.from_residual.ensures.1 in rw (p.1, p.2) (λ memory. absurd (memory refl))

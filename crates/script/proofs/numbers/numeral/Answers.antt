@@ -6,18 +6,18 @@ use Rattle.script.specs.Numbers.{value_of}
 use Rattle.script.proofs.Numerals.{turn, stop}
 use Rattle.script.proofs.numbers.numeral.Goals as goal
 
-pub returns-in-err-value : goal.returns-in-err-value
-returns-in-err-value c =
-    let p = err_from_is_err_and c.from-residual.result c.from-residual.ensures.1 in
+pub returns-in_err-value : goal.returns-in_err-value
+returns-in_err-value c =
+    let p = err_from_is_err_and c.from_residual.result c.from_residual.ensures.1 in
     rw (p.1, p.2)
-    (sym (stop c.args.base c.loop-character.value _ c.args.digits.now _ c.loop-character-test.true (sym c.in-err-value.ensures))
-    ∙ c.loop-character.invariant ∙ sym (cond-false _ _ _ (sym c.if-is-empty.ensures)))
+    (sym (stop c.args.base c.loop-character.value _ c.args.digits.now _ c.loop-character-test.true (sym c.in_err-value.ensures))
+    ∙ c.loop-character.invariant ∙ sym (cond-false _ _ _ (sym c.if-is_empty.ensures)))
 
 pub loop-character-preserved : goal.loop-character-preserved
 loop-character-preserved c =
-    turn c.args.base c.loop-character.value _ _ c.args.digits.now c.loop-character-test.true (sym c.in-ok-value.ensures) ∙ c.loop-character.invariant
+    turn c.args.base c.loop-character.value _ _ c.args.digits.now c.loop-character-test.true (sym c.in_ok-value.ensures) ∙ c.loop-character.invariant
 
 pub returns : goal.returns
 returns c =
     sym (at_drop_all (value_of c.args.base c.loop-character.value) c.args.digits.now _ c.loop-character-test.false)
-    ∙ c.loop-character.invariant ∙ sym (cond-false _ _ _ (sym c.if-is-empty.ensures))
+    ∙ c.loop-character.invariant ∙ sym (cond-false _ _ _ (sym c.if-is_empty.ensures))

@@ -8,8 +8,8 @@ use Rattle.script.proofs.spelling.write_byte.Goals as goal
 
 pub returns : goal.returns
 returns g c plain ok =
-    let p = c.in-ok-write-char.ensures.writes plain refl in
-    let q = c.write-char-2.ensures.writes p.plain ok in
-    let a = has_written_of_eq g.W.Write.write_str_gives c.args.f.now (encode c.digit.result) (character (c.args.byte / 16) ∷ []) c.write-char.new.self (ap encode c.digit.ensures ∙ digit_byte (c.args.byte / 16) (omega arith)) p in
-    let b = has_written_of_eq g.W.Write.write_str_gives c.write-char.new.self (encode c.digit-2.result) (character (c.args.byte % 16) ∷ []) c.write-char-2.new.self (ap encode c.digit-2.ensures ∙ digit_byte (c.args.byte % 16) (omega arith)) q in
-    has_written_append g.W.Write.write_str_gives c.args.f.now (character (c.args.byte / 16) ∷ []) c.write-char.new.self (character (c.args.byte % 16) ∷ []) c.write-char-2.new.self a b
+    let p = c.in_ok-write_char.ensures.writes plain refl in
+    let q = c.write_char-2.ensures.writes p.plain ok in
+    let a = has_written_of_eq g.W.Write.write_str_gives c.args.f.now (encode c.digit.result) (character (c.args.byte / 16) ∷ []) c.write_char.new.self (ap encode c.digit.ensures ∙ digit_byte (c.args.byte / 16) (omega arith)) p in
+    let b = has_written_of_eq g.W.Write.write_str_gives c.write_char.new.self (encode c.digit-2.result) (character (c.args.byte % 16) ∷ []) c.write_char-2.new.self (ap encode c.digit-2.ensures ∙ digit_byte (c.args.byte % 16) (omega arith)) q in
+    has_written_append g.W.Write.write_str_gives c.args.f.now (character (c.args.byte / 16) ∷ []) c.write_char.new.self (character (c.args.byte % 16) ∷ []) c.write_char-2.new.self a b
