@@ -1,3 +1,4 @@
 //! The lines that list a module.
 #![tactic(auto)]
+
 pub mod lines;
