@@ -1,6 +1,7 @@
 //! Reads cases for the gate, one a line, and prints what it answers and what both marks buffers then hold. A case is
 //! `IMAGE BASE COUNT STARTS TARGETS`: bytes as hexadecimal digits, `-` for none, numbers in decimal.
 #![tactic(auto)]
+
 use gate::entries::EntryRow;
 use gate::refusals::Refusal;
 use gate::verdicts::judge;
@@ -30,7 +31,7 @@ fn word<'a>(words: &mut Words<'a>) -> Result<&'a [u8], Problem> {
 
 fn group(heap: Global, words: &mut Words<'_>) -> Result<Vec<u8>, Problem> {
     let word = word(words)?;
-    if word == b"-" {
+    if word == b"-".as_slice() {
         Ok(Vec::new(heap))
     } else {
         bytes(heap, word)

@@ -1,6 +1,7 @@
 //! Reads encodings, one a line, and prints what the decoder and the recogniser of pairs make of each. `#` starts a
 //! comment; `pair` before the bytes asks for a pair.
 #![tactic(auto)]
+
 use script::groups::bytes;
 use std::io::{BufRead, BufReader};
 use syntax::Intel;
