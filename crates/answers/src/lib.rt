@@ -1,2 +1,4 @@
 //! What is answered about a memory, in words.
+#![tactic(auto)]
+
 pub mod memories;
