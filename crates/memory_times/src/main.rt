@@ -5,7 +5,6 @@
 use clock::{put_rate, read_rate};
 use memory::faults::MemoryFault;
 use memory::flat::Flat;
-use memory::memories::Memory;
 use memory::paged::Paged;
 use std::alloc::{AllocError, Global};
 use std::{env, io};
