@@ -1,11 +1,10 @@
 -- A put as steps: its pages are held, then its bytes are laid.
-use Rattle.std.proofs.Common.{◌≡◌, ℕ, ◌+◌, ◌-◌, ◌*◌, ◌/◌, ◌%◌, ◌<◌, ◌≤◌, Bool, true, false, cond, eqb, ◌≢◌, List, [], ◌∷◌, length, get_or, set, Some, None, Ok, Err, Option, sym, refl, ap, ◌∙◌, ⊎_elim, arith}
+use Rattle.std.proofs.Common.{◌≡◌, ℕ, ◌+◌, ◌-◌, ◌/◌, ◌%◌, ◌<◌, ◌≤◌, true, false, cond, eqb, List, length, set, Ok, Err, sym, refl, ap, ◌∙◌, arith}
 use Rattle.std.proofs.lemmas.List.{length-set, get_or-set_same, get_or-set_other, set-set}
-use Rattle.std.proofs.lemmas.Bool.{cases_eq, eq-eqb, ne_eqb, cond-true, cond-false}
-use Rattle.memory.specs.Access.{Outcome, laid, lacks, lacking, last_page, stored, put_of}
-use Rattle.memory.specs.Data.{parts}
-use Rattle.memory.specs.Meaning.{Meaning, Valid, holds}
-use Rattle.memory.specs.Holding.{PageHeld, BothHeld, with_page, with_bytes}
+use Rattle.std.proofs.lemmas.Bool.{eq-eqb, ne_eqb, cond-true, cond-false}
+use Rattle.memory.specs.Access.{Outcome, lacks, lacking, last_page, stored, put_of}
+use Rattle.memory.specs.Meaning.{Meaning, holds}
+use Rattle.memory.specs.Holding.{BothHeld, with_page, with_bytes}
 use Rattle.memory.specs.declared.faults.MemoryFault.TheVariants.{NoFreePage}
 use Rattle.memory.specs.Puts.{meaning_same, put_ok, put_full}
 

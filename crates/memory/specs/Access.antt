@@ -1,5 +1,5 @@
 -- What a read answers, and what a put answers and leaves.
-use Rattle.std.specs.Prelude.{ℕ, ◌+◌, ◌-◌, ◌/◌, Bool, true, cond, List, [], ◌∷◌, length, Ok, Err, Result, ◌==◌, nat_lt, slice_index, slice_set}
+use Rattle.std.specs.Prelude.{ℕ, ◌+◌, ◌-◌, ◌/◌, true, cond, List, [], ◌∷◌, length, Ok, Err, Result, ◌==◌, nat_lt, slice_index, slice_set}
 use Rattle.memory.specs.Data.{long_at}
 use Rattle.memory.specs.Meaning.{Meaning, holds}
 use Rattle.memory.specs.declared.faults.MemoryFault.{MemoryFault}

@@ -1,14 +1,14 @@
 -- A memory with no page held.
-use Rattle.std.specs.Prelude.{◌≡◌, ℕ, zero, suc, ◌+◌, ◌-◌, ◌*◌, ◌/◌, ◌%◌, ◌<◌, ◌≤◌, Bool, true, false, cond, List, [], ◌∷◌, length, replicate, Ok, Err, Result, slice_index, slice_index_or, refl}
+use Rattle.std.specs.Prelude.{◌≡◌, ℕ, zero, suc, ◌+◌, ◌/◌, ◌<◌, ◌≤◌, false, List, length, replicate, Ok, Err, Result, slice_index, slice_index_or, refl}
 use Rattle.std.proofs.Common.{sym, ap, ◌∙◌, arith}
 use Rattle.std.proofs.lemmas.List.{length-replicate}
 use Rattle.std.proofs.lemmas.Bool.{lt-ltb, le-ltb, cond-true, cond-false}
-use Rattle.memory.specs.Access.{Outcome, lacking, last_page, put_of, read_of, read_long_of}
+use Rattle.memory.specs.Access.{Outcome, put_of, read_of, read_long_of}
 use Rattle.memory.specs.Data.{long_at}
-use Rattle.memory.specs.Meaning.{Meaning, Valid, Fit, Octets, holds, blank_memory, unfit_memory}
+use Rattle.memory.specs.Meaning.{Valid, Fit, Octets, holds, blank_memory, unfit_memory}
 use Rattle.memory.specs.declared.faults.MemoryFault.{MemoryFault}
-use Rattle.memory.specs.declared.faults.MemoryFault.TheVariants.{Outside, NoFreePage}
-use Rattle.memory.specs.Puts.{put_full, put_outside}
+use Rattle.memory.specs.declared.faults.MemoryFault.TheVariants.{NoFreePage}
+use Rattle.memory.specs.Puts.{put_full}
 
 pub get_d_filled : {A : Type 0} (n k : ℕ) (d : A) → slice_index_or (replicate n d) k d ≡ d
 get_d_filled zero k d = refl

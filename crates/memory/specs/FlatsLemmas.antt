@@ -1,18 +1,17 @@
 -- A flat memory's meaning is valid, and what a read and a put do in it.
-use Rattle.std.specs.Prelude.{◌≡◌, ℕ, zero, suc, ◌+◌, ◌-◌, ◌*◌, ◌/◌, ◌%◌, ◌<◌, ◌≤◌, Bool, true, false, cond, ◌||◌, List, [], ◌∷◌, length, replicate, is_err, Ok, Err, Result, ◌==◌, slice_index, slice_set, refl}
+use Rattle.std.specs.Prelude.{◌≡◌, ℕ, zero, suc, ◌+◌, ◌/◌, ◌<◌, ◌≤◌, Bool, true, false, cond, List, [], ◌∷◌, length, replicate, is_err, Ok, Err, Result, ◌==◌, slice_index, slice_set, refl}
 use Rattle.std.proofs.Common.{sym, ap, ◌∙◌, ⊎_elim, arith}
 use Rattle.std.proofs.lemmas.List.{length-replicate, get_or-replicate, get_or_past}
-use Rattle.std.proofs.lemmas.Bool.{true≢false, eqb-true, or_cases, or_right, cases_lt, lt-ltb, le-ltb, cond-true, cond-false}
+use Rattle.std.proofs.lemmas.Bool.{true≢false, eqb-true, or_cases, or_right, cases_lt}
 use Rattle.memory.specs.Access.{Outcome, laid, lacking, last_page, stored, put_of, read_of, read_long_of}
-use Rattle.memory.specs.Data.{long_at}
 use Rattle.memory.specs.Flats.{Kept, flat_check, whole, flat_meaning}
-use Rattle.memory.specs.Meaning.{Meaning, Valid, Fit, fits, unfit_memory}
+use Rattle.memory.specs.Meaning.{Valid, Fit, fits, unfit_memory}
 use Rattle.memory.specs.declared.faults.MemoryFault.{MemoryFault}
-use Rattle.memory.specs.declared.faults.MemoryFault.TheVariants.{Outside, NoFreePage}
+use Rattle.memory.specs.declared.faults.MemoryFault.TheVariants.{NoFreePage}
 use Rattle.memory.specs.declared.faults.Unfit.{Unfit}
 use Rattle.memory.specs.declared.faults.Unfit.TheVariants.{Size}
 use Rattle.memory.specs.Blanks.{blank_valid, blank_size, unfit_read, unfit_read_long, unfit_put}
-use Rattle.memory.specs.Puts.{fit_from, length_laid, meaning_same, put_ok, put_outside}
+use Rattle.memory.specs.Puts.{fit_from, length_laid, meaning_same, put_ok}
 
 pub empty_means : (xs : List ℕ) → length xs ≡ 0 → flat_meaning xs ≡ unfit_memory
 empty_means [] e = refl

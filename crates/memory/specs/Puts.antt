@@ -1,6 +1,6 @@
 -- The three ways of a put, and when two meanings are the same.
-use Rattle.std.specs.Prelude.{◌≡◌, ℕ, ◌+◌, ◌-◌, ◌*◌, ◌/◌, ◌%◌, ◌<◌, ◌≤◌, Bool, true, List, [], ◌∷◌, length, Ok, Err, Result, slice_set, refl}
-use Rattle.std.proofs.Common.{sym, ap, ◌∙◌, ⊎_elim, arith}
+use Rattle.std.specs.Prelude.{◌≡◌, ℕ, ◌+◌, ◌/◌, ◌%◌, ◌<◌, ◌≤◌, Bool, true, List, [], ◌∷◌, length, Ok, Err, slice_set, refl}
+use Rattle.std.proofs.Common.{ap, ◌∙◌, ⊎_elim, arith}
 use Rattle.std.proofs.lemmas.List.{length-set, get_or-set_same, get_or-set_other, set_past}
 use Rattle.std.proofs.lemmas.Bool.{cases_eq, cases_lt, le-ltb, lt-ltb, and_parts, leb-true, eqb-true, cond-false, cond-true}
 use Rattle.memory.specs.Access.{Outcome, laid, lacking, last_page, stored, put_of}
@@ -8,7 +8,6 @@ use Rattle.memory.specs.Data.{parts}
 use Rattle.memory.specs.Meaning.{Meaning, Fit, Octets, fits}
 use Rattle.memory.specs.declared.data.Datum.{Datum}
 use Rattle.memory.specs.declared.data.Datum.TheVariants.{Byte, Long}
-use Rattle.memory.specs.declared.faults.MemoryFault.{MemoryFault}
 use Rattle.memory.specs.declared.faults.MemoryFault.TheVariants.{Outside, NoFreePage}
 
 pub fit_from : (n : ℕ) → fits n ≡ true → Fit n

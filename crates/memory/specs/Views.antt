@@ -2,13 +2,13 @@
 use Rattle.std.specs.Prelude.{◌≡◌, ℕ, zero, suc, ◌+◌, ◌-◌, ◌*◌, ◌/◌, ◌%◌, ◌<◌, ◌≤◌, Bool, true, false, cond, ◌≢◌, List, [], ◌∷◌, map, length, get_or, take, set, replicate, is_some, Some, None, Option, slice_index, slice_index_or, slice_set, refl}
 use Rattle.std.proofs.Common.{sym, ap, ◌∙◌, ⊎_elim, arith}
 use Rattle.std.proofs.Math.Path.{fun_ext}
-use Rattle.std.proofs.lemmas.List.{length-set, length-map, length-take-le, length-replicate, map-set, get_or-set_same, get_or-set_other, get_or_past, ext_get_or, get_or_read, set-get_or, set-set}
-use Rattle.std.proofs.lemmas.Bool.{true≢false, cases_lt, cases_eq}
+use Rattle.std.proofs.lemmas.List.{length-set, length-map, length-take-le, length-replicate, map-set, get_or-set_same, get_or-set_other, get_or_past, ext_get_or, set-get_or, set-set}
+use Rattle.std.proofs.lemmas.Bool.{cases_lt, cases_eq}
 use Rattle.std.proofs.lemmas.List.FromFn.{get_or-map-range_with_len, length-map-range_with_len}
 use Rattle.std.specs.List.{range_with_len}
 use Rattle.memory.specs.Access.{lacks, laid}
 use Rattle.memory.specs.Data.{long_at}
-use Rattle.memory.specs.Meaning.{Meaning, Valid, Fit, Octets, holds, blank_memory}
+use Rattle.memory.specs.Meaning.{Valid, Fit, blank_memory}
 use Rattle.memory.specs.Holding.{with_page, with_bytes}
 use Rattle.memory.specs.Pages.{cell, byte_at, paged_meaning, Mapped, Apart, Sound}
 use Rattle.memory.specs.Blanks.{get_d_filled}

@@ -1,4 +1,6 @@
 //! Memories: one meaning, a trait that is proved over it, and two that keep it.
+#![tactic(auto)]
+
 pub mod data;
 pub mod faults;
 pub mod flat;

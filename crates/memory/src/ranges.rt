@@ -8,7 +8,7 @@ use crate::memories::Memory;
 
 /// Puts bytes one by one from `base` on. A refusal ends it, and the bytes before it stay put.
 pub fn write<M: Memory>(memory: &mut M, base: u32, bytes: &[u8]) -> Result<(), MemoryFault>
-    ensures { (result, M.Memory.meaning memory.new) ≡ write_of (M.Memory.meaning memory.old) base bytes.now }
+    ensures { (result, M.meaning memory.new) ≡ write_of (M.meaning memory.old) base bytes.now }
 {
     let mut at = base;
     for byte in bytes {
@@ -21,7 +21,7 @@ pub fn write<M: Memory>(memory: &mut M, base: u32, bytes: &[u8]) -> Result<(), M
 /// Fills a buffer with the bytes from `base` on. The first byte outside is refused; those before it are in the buffer then,
 /// and the rest of it is as it was.
 pub fn copy<M: Memory>(memory: &M, base: u32, buffer: &mut [u8]) -> Result<(), MemoryFault>
-    ensures { (result, buffer.new) ≡ copy_of (M.Memory.meaning memory.now) base buffer.old }
+    ensures { (result, buffer.new) ≡ copy_of (M.meaning memory.now) base buffer.old }
 {
     let mut at = base;
     for byte in buffer.iter_mut() {

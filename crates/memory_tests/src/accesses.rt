@@ -3,7 +3,6 @@ use memory::data::Datum;
 use memory::faults::MemoryFault;
 use memory::memories::Memory;
 use std::process::Abort;
-use std::test::*;
 
 /// A value, or the number and the address of a refusal.
 pub(crate) type Told<T> = Result<T, (u8, u32)>;
@@ -42,7 +41,7 @@ fn there<M: Memory>(memory: &M, at: u32, datum: Datum) -> Told<u32> {
 }
 
 /// Makes the puts one after another. What is granted is read back, and a refusal leaves what it was to write over.
-pub(crate) fn puts<M: Memory>(rt: &impl Abort, memory: &mut M, cases: &[Put]) -> Result<(), Fail> {
+pub(crate) fn puts<M: Memory>(rt: &impl Abort, memory: &mut M, cases: &[Put], name: &str) {
     for Put(at, datum, expected, why) in cases {
         let before = there(memory, *at, *datum);
         let (answer, after) = match *expected {
@@ -50,18 +49,13 @@ pub(crate) fn puts<M: Memory>(rt: &impl Abort, memory: &mut M, cases: &[Put]) ->
             Expected::Refused(11) => (Err((11, *at)), Err((11, *at))),
             Expected::Refused(number) => (Err((number, *at)), before),
         };
-        assert_eq!(rt; told(memory.put(*at, *datum)), answer, "{}", *why);
-        assert_eq!(rt; there(memory, *at, *datum), after, "{}", *why);
+        assert_eq!(rt; told(memory.put(*at, *datum)), answer, "{name}: {}", *why);
+        assert_eq!(rt; there(memory, *at, *datum), after, "{name}: {}", *why);
     }
-    Ok(())
 }
 
 /// Each byte is 0, but for the one at `but`.
-pub(crate) fn zeros<M: Memory>(
-    rt: &impl Abort,
-    memory: &M,
-    but: Option<(u32, u8)>,
-) -> Result<(), Fail> {
+pub(crate) fn zeros<M: Memory>(rt: &impl Abort, memory: &M, but: Option<(u32, u8)>, name: &str) {
     for address in 0..memory.size() {
         let wanted = match but {
             Some((at, byte)) if at == address => byte,
@@ -70,8 +64,7 @@ pub(crate) fn zeros<M: Memory>(
         assert_eq!(rt;
             told(memory.read(address)),
             Ok(wanted),
-            "the byte at {address}"
+            "{name}: the byte at {address}"
         );
     }
-    Ok(())
 }

@@ -7,7 +7,7 @@ use memory::data::Datum;
 use memory::memories::Memory;
 use std::alloc::Global;
 use std::process::Abort;
-use std::test::*;
+use std::test::Fail;
 
 const FLAT_SIZES: [u32; 5] = [256, 512, 1_024, 65_536, 1_048_576];
 
@@ -30,17 +30,21 @@ const RUNS: u32 = 20;
 
 const TURNS: u32 = 2_000;
 
-// How many puts were granted, refused with 11 and refused with 12.
+// What is compared, and how many puts were granted, refused with 11 and refused with 12.
 #[derive(Drop)]
 struct Tally {
+    name: &'static str,
+    size: u32,
     granted: u32,
     outside: u32,
     no_free_page: u32,
 }
 
 impl Tally {
-    fn new() -> Tally {
+    fn new(name: &'static str, size: u32) -> Tally {
         Tally {
+            name,
+            size,
             granted: 0,
             outside: 0,
             no_free_page: 0,
@@ -57,15 +61,22 @@ impl Tally {
     }
 
     // A comparison in which no put was granted, or none refused, would show little.
-    fn tells_enough(&self, frames_run_out: bool) -> Result<(), Fail> {
-        assert!(self.granted > 1_000, "few puts were granted");
-        assert!(self.outside > 1_000, "few puts left the memory");
-        assert_eq!(
+    fn tells_enough(&self, rt: &impl Abort, frames_run_out: bool) {
+        let name = self.name;
+        let size = self.size;
+        assert!(rt;
+            self.granted > 1_000,
+            "{name}, size {size}: few puts were granted"
+        );
+        assert!(rt;
+            self.outside > 1_000,
+            "{name}, size {size}: few puts left the memory"
+        );
+        assert_eq!(rt;
             self.no_free_page > 100,
             frames_run_out,
-            "puts with no page free"
+            "{name}, size {size}: puts with no page free"
         );
-        Ok(())
     }
 }
 
@@ -76,11 +87,19 @@ fn same_put<M: Memory>(
     at: u32,
     datum: Datum,
     tally: &mut Tally,
-) -> Result<(), Fail> {
+    turn: u32,
+) {
     let answer = told(memory.put(at, datum));
     tally.count(answer);
-    assert_eq!(rt; answer, model.put(at, datum));
-    Ok(())
+    let wanted = model.put(at, datum);
+    assert_eq!(rt;
+        answer,
+        wanted,
+        "{}, size {}, turn {turn}: put of {} bytes at {at}",
+        tally.name,
+        tally.size,
+        datum.width()
+    );
 }
 
 fn same_turn<M: Memory>(
@@ -89,12 +108,31 @@ fn same_turn<M: Memory>(
     model: &mut Model,
     random: &mut Random,
     tally: &mut Tally,
-) -> Result<(), Fail> {
+    turn: u32,
+) {
     let at = random.address(memory.size());
     let value = random.draw();
-    let same = match random.below(4) {
-        0 => check_eq(told(memory.read(at)), model.read(at)).note("read"),
-        1 => check_eq(told(memory.read_long(at)), model.read_long(at)).note("read_long"),
+    match random.below(4) {
+        0 => {
+            let answer = told(memory.read(at));
+            assert_eq!(rt;
+                answer,
+                model.read(at),
+                "{}, size {}, turn {turn}: read at {at}",
+                tally.name,
+                tally.size
+            );
+        }
+        1 => {
+            let answer = told(memory.read_long(at));
+            assert_eq!(rt;
+                answer,
+                model.read_long(at),
+                "{}, size {}, turn {turn}: read_long at {at}",
+                tally.name,
+                tally.size
+            );
+        }
         2 => same_put(
             rt,
             memory,
@@ -102,11 +140,10 @@ fn same_turn<M: Memory>(
             at,
             Datum::Byte((value & 0xff) as u8),
             tally,
-        )
-        .note("put byte"),
-        _ => same_put(rt, memory, model, at, Datum::Long(value), tally).note("put long"),
-    };
-    same.note(format_args!("at {at}"))
+            turn,
+        ),
+        _ => same_put(rt, memory, model, at, Datum::Long(value), tally, turn),
+    }
 }
 
 fn same_run<M: Memory>(
@@ -115,24 +152,30 @@ fn same_run<M: Memory>(
     model: &mut Model,
     random: &mut Random,
     tally: &mut Tally,
-) -> Result<(), Fail> {
+) {
     for turn in 0..TURNS {
-        same_turn(rt, memory, model, random, tally).note(format_args!("turn {turn}"))?;
+        same_turn(rt, memory, model, random, tally, turn);
     }
     for at in 0..memory.size() {
-        assert_eq!(rt; told(memory.read(at)), model.read(at), "at {at} in the end");
+        assert_eq!(rt;
+            told(memory.read(at)),
+            model.read(at),
+            "{}, size {}: at {at} in the end",
+            tally.name,
+            tally.size
+        );
     }
-    Ok(())
 }
 
 fn flat_runs(rt: &impl Abort, heap: Global, size: u32, random: &mut Random) -> Result<(), Fail> {
-    let mut tally = Tally::new();
+    let mut tally = Tally::new("flat", size);
     for _ in 0..RUNS {
         let mut memory = flat(heap, size as usize, 0x77)?;
         let mut model = Model::new(heap, size, 0x77, true, 0)?;
-        same_run(rt, &mut memory, &mut model, random, &mut tally)?;
+        same_run(rt, &mut memory, &mut model, random, &mut tally);
     }
-    tally.tells_enough(false)
+    tally.tells_enough(rt, false);
+    Ok(())
 }
 
 fn paged_runs(
@@ -141,22 +184,24 @@ fn paged_runs(
     size: u32,
     frames: usize,
     run_out: bool,
+    why: &'static str,
     random: &mut Random,
 ) -> Result<(), Fail> {
-    let mut tally = Tally::new();
+    let mut tally = Tally::new(why, size);
     for _ in 0..RUNS {
         let mut memory = paged(heap, size, frames)?;
         let mut model = Model::new(heap, size, 0, false, frames)?;
-        same_run(rt, &mut memory, &mut model, random, &mut tally)?;
+        same_run(rt, &mut memory, &mut model, random, &mut tally);
     }
-    tally.tells_enough(run_out)
+    tally.tells_enough(rt, run_out);
+    Ok(())
 }
 
 #[test]
 fn flat_memory_and_plain_bytes(rt: HostRuntime) -> Result<(), Fail> {
     let mut random = Random::new(1);
     for size in &FLAT_SIZES {
-        flat_runs(&rt, rt.alloc(), *size, &mut random).note(format_args!("size {size}"))?;
+        flat_runs(&rt, rt.alloc(), *size, &mut random)?;
     }
     Ok(())
 }
@@ -165,7 +210,7 @@ fn flat_memory_and_plain_bytes(rt: HostRuntime) -> Result<(), Fail> {
 fn paged_memory_and_plain_bytes(rt: HostRuntime) -> Result<(), Fail> {
     let mut random = Random::new(2);
     for (size, frames, run_out, why) in &PAGED_SIZES {
-        paged_runs(&rt, rt.alloc(), *size, *frames, *run_out, &mut random).note(*why)?;
+        paged_runs(&rt, rt.alloc(), *size, *frames, *run_out, *why, &mut random)?;
     }
     Ok(())
 }

@@ -7,7 +7,7 @@ use memory::data::Datum::{Byte, Long};
 use memory::memories::Memory;
 use std::alloc::Global;
 use std::process::Abort;
-use std::test::*;
+use std::test::Fail;
 
 const OVER_THE_EDGE: [(u32, &str); 5] = [
     (252, "the last four bytes of the first page"),
@@ -50,44 +50,48 @@ fn puts_four<M: Memory>(
     memory: &mut M,
     start: u32,
     around: u8,
-) -> Result<(), Fail> {
-    assert_eq!(rt; told(memory.put(start, Datum::Long(0x0403_0201))), Ok(()));
-    assert_eq!(rt; told(memory.read_long(start)), Ok(0x0403_0201));
+    name: &str,
+    why: &str,
+) {
+    let answer = told(memory.put(start, Datum::Long(0x0403_0201)));
+    assert_eq!(rt; answer, Ok(()), "{name}: {why}");
+    let answer = told(memory.read_long(start));
+    assert_eq!(rt; answer, Ok(0x0403_0201), "{name}: {why}");
     for address in 0..512 {
         assert_eq!(rt;
             told(memory.read(address)),
             Ok(wanted(address, start, around)),
-            "the byte at {address}"
+            "{name}: {why}: the byte at {address}"
         );
     }
-    Ok(())
 }
 
-fn fill<M: Memory>(rt: &impl Abort, memory: &mut M, byte: u8) -> Result<(), Fail> {
+fn fill<M: Memory>(rt: &impl Abort, memory: &mut M, byte: u8) {
     for address in 0..memory.size() {
         assert_eq!(rt; told(memory.put(address, Datum::Byte(byte))), Ok(()));
     }
-    Ok(())
 }
 
-fn over_the_edge(rt: &impl Abort, heap: Global, start: u32) -> Result<(), Fail> {
-    puts_four(rt, &mut flat(heap, 512, 0x77)?, start, 0x77).note("flat")?;
-    puts_four(rt, &mut paged(heap, 512, 2)?, start, 0).note("no page held")?;
+fn over_the_edge(rt: &impl Abort, heap: Global, start: u32, why: &str) -> Result<(), Fail> {
+    puts_four(rt, &mut flat(heap, 512, 0x77)?, start, 0x77, "flat", why);
+    puts_four(rt, &mut paged(heap, 512, 2)?, start, 0, "no page held", why);
     let mut held = paged(heap, 512, 2)?;
-    fill(rt, &mut held, 0x77)?;
-    puts_four(rt, &mut held, start, 0x77).note("both pages held")
+    fill(rt, &mut held, 0x77);
+    puts_four(rt, &mut held, start, 0x77, "both pages held", why);
+    Ok(())
 }
 
 #[test]
 fn four_bytes_over_the_edge(rt: HostRuntime) -> Result<(), Fail> {
     for (start, why) in &OVER_THE_EDGE {
-        over_the_edge(&rt, rt.alloc(), *start).note(*why)?;
+        over_the_edge(&rt, rt.alloc(), *start, *why)?;
     }
     Ok(())
 }
 
 #[test]
 fn at_the_end(rt: HostRuntime) -> Result<(), Fail> {
-    puts(&rt, &mut flat(rt.alloc(), 512, 0x77)?, &AT_THE_END).note("flat")?;
-    puts(&rt, &mut paged(rt.alloc(), 512, 2)?, &AT_THE_END).note("paged")
+    puts(&rt, &mut flat(rt.alloc(), 512, 0x77)?, &AT_THE_END, "flat");
+    puts(&rt, &mut paged(rt.alloc(), 512, 2)?, &AT_THE_END, "paged");
+    Ok(())
 }

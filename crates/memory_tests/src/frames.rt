@@ -4,7 +4,7 @@ use crate::accesses::{Put, puts, told, zeros};
 use crate::made::paged;
 use memory::data::Datum::{Byte, Long};
 use memory::memories::Memory;
-use std::test::*;
+use std::test::Fail;
 
 // Three pages, one frame: after the first line it is still free for either page.
 const FRAME_TO_THE_FIRST: [Put; 8] = [
@@ -47,29 +47,58 @@ const SECOND_HELD: [Put; 2] = [
 
 #[test]
 fn one_frame_too_few(rt: HostRuntime) -> Result<(), Fail> {
-    puts(&rt, &mut paged(rt.alloc(), 768, 1)?, &FRAME_TO_THE_FIRST)?;
-    puts(&rt, &mut paged(rt.alloc(), 768, 1)?, &FRAME_TO_THE_SECOND)
+    puts(
+        &rt,
+        &mut paged(rt.alloc(), 768, 1)?,
+        &FRAME_TO_THE_FIRST,
+        "the first",
+    );
+    puts(
+        &rt,
+        &mut paged(rt.alloc(), 768, 1)?,
+        &FRAME_TO_THE_SECOND,
+        "the second",
+    );
+    Ok(())
 }
 
 #[test]
 fn as_many_frames_as_pages_to_hold(rt: HostRuntime) -> Result<(), Fail> {
-    puts(&rt, &mut paged(rt.alloc(), 768, 2)?, &NEITHER_HELD)?;
-    puts(&rt, &mut paged(rt.alloc(), 768, 2)?, &FIRST_HELD)?;
-    puts(&rt, &mut paged(rt.alloc(), 768, 2)?, &SECOND_HELD)
+    puts(
+        &rt,
+        &mut paged(rt.alloc(), 768, 2)?,
+        &NEITHER_HELD,
+        "neither held",
+    );
+    puts(
+        &rt,
+        &mut paged(rt.alloc(), 768, 2)?,
+        &FIRST_HELD,
+        "the first held",
+    );
+    puts(
+        &rt,
+        &mut paged(rt.alloc(), 768, 2)?,
+        &SECOND_HELD,
+        "the second held",
+    );
+    Ok(())
 }
 
 #[test]
 fn a_refused_put_writes_nothing(rt: HostRuntime) -> Result<(), Fail> {
     let mut memory = paged(rt.alloc(), 512, 1)?;
     assert_eq!(rt; told(memory.put(254, Long(0xffff_ffff))), Err((12, 254)));
-    zeros(&rt, &memory, None)
+    zeros(&rt, &memory, None, "a refused put");
+    Ok(())
 }
 
 // The frames are full of ones.
 #[test]
 fn old_contents_of_frames_play_no_part(rt: HostRuntime) -> Result<(), Fail> {
     let mut memory = paged(rt.alloc(), 768, 3)?;
-    zeros(&rt, &memory, None).note("no page is held")?;
+    zeros(&rt, &memory, None, "no page is held");
     assert_eq!(rt; told(memory.put(300, Byte(9))), Ok(()));
-    zeros(&rt, &memory, Some((300, 9))).note("one page is held")
+    zeros(&rt, &memory, Some((300, 9)), "one page is held");
+    Ok(())
 }

@@ -1,5 +1,7 @@
 //! Tests of the memories. Each rule is a table of cases, run on either memory through the trait; and both are compared with
 //! plain bytes on long random runs.
+#![tactic(auto)]
+
 #[cfg(test)]
 mod accesses;
 #[cfg(test)]

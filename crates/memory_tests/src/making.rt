@@ -9,7 +9,7 @@ use memory::memories::Memory;
 use memory::paged::Paged;
 use std::alloc::Global;
 use std::process::Abort;
-use std::test::*;
+use std::test::Fail;
 
 // A size, the number with which it is refused, and why.
 const SIZES: [(u32, Option<u8>, &str); 9] = [
@@ -52,36 +52,38 @@ fn number(answer: Result<(), Unfit>) -> Option<u8> {
 }
 
 // No byte of 256 can be put.
-fn refuses_all<M: Memory>(rt: &impl Abort, memory: &mut M) -> Result<(), Fail> {
+fn refuses_all<M: Memory>(rt: &impl Abort, memory: &mut M, why: &str) {
     for at in 0..256 {
-        assert_eq!(rt; told(memory.put(at, Byte(9))), Err((12, at)));
+        assert_eq!(rt; told(memory.put(at, Byte(9))), Err((12, at)), "{why}");
     }
-    Ok(())
 }
 
 // A memory of `size` bytes, or, where it was refused, one of 256 that keeps nothing.
-fn made_as<M: Memory>(
-    rt: &impl Abort,
-    memory: &mut M,
-    size: u32,
-    refused: Option<u8>,
-) -> Result<(), Fail> {
+fn made_as<M: Memory>(rt: &impl Abort, memory: &mut M, size: u32, refused: Option<u8>, why: &str) {
     if refused.is_some() {
-        assert_eq!(rt; memory.size(), 256);
-        puts(rt, memory, &NOTHING_KEPT)?;
-        refuses_all(rt, memory)?;
-        return zeros(rt, memory, None);
+        assert_eq!(rt; memory.size(), 256, "{why}");
+        puts(rt, memory, &NOTHING_KEPT, why);
+        refuses_all(rt, memory, why);
+        zeros(rt, memory, None, why);
+        return;
     }
-    assert_eq!(rt; memory.size(), size);
+    assert_eq!(rt; memory.size(), size, "{why}");
     let last = size.wrapping_sub(1);
-    assert_eq!(rt; told(memory.put(last, Byte(9))), Ok(()));
-    assert_eq!(rt; told(memory.put(size, Byte(9))), Err((11, size)));
-    Ok(())
+    assert_eq!(rt; told(memory.put(last, Byte(9))), Ok(()), "{why}");
+    assert_eq!(rt; told(memory.put(size, Byte(9))), Err((11, size)), "{why}");
 }
 
-fn flat_of(rt: &impl Abort, heap: Global, size: u32, refused: Option<u8>) -> Result<(), Fail> {
-    assert_eq!(rt; number(Flat::check(size as usize)), refused);
-    made_as(rt, &mut flat(heap, size as usize, 0x77)?, size, refused)
+fn flat_of(
+    rt: &impl Abort,
+    heap: Global,
+    size: u32,
+    refused: Option<u8>,
+    why: &str,
+) -> Result<(), Fail> {
+    assert_eq!(rt; number(Flat::check(size as usize)), refused, "{why}");
+    let mut memory = flat(heap, size as usize, 0x77)?;
+    made_as(rt, &mut memory, size, refused, why);
+    Ok(())
 }
 
 fn paged_of(
@@ -90,16 +92,19 @@ fn paged_of(
     size: u32,
     frames: usize,
     refused: Option<u8>,
+    why: &str,
 ) -> Result<(), Fail> {
-    assert_eq!(rt; number(Paged::check(size, frames)), refused);
-    made_as(rt, &mut paged(heap, size, frames)?, size, refused)
+    assert_eq!(rt; number(Paged::check(size, frames)), refused, "{why}");
+    let mut memory = paged(heap, size, frames)?;
+    made_as(rt, &mut memory, size, refused, why);
+    Ok(())
 }
 
 #[test]
 fn sizes(rt: HostRuntime) -> Result<(), Fail> {
     for (size, refused, why) in &SIZES {
-        flat_of(&rt, rt.alloc(), *size, *refused).note(*why)?;
-        paged_of(&rt, rt.alloc(), *size, 1, *refused).note(*why)?;
+        flat_of(&rt, rt.alloc(), *size, *refused, *why)?;
+        paged_of(&rt, rt.alloc(), *size, 1, *refused, *why)?;
     }
     Ok(())
 }
@@ -107,7 +112,7 @@ fn sizes(rt: HostRuntime) -> Result<(), Fail> {
 #[test]
 fn numbers_of_frames(rt: HostRuntime) -> Result<(), Fail> {
     for (frames, refused, why) in &FRAMES {
-        paged_of(&rt, rt.alloc(), 256, *frames, *refused).note(*why)?;
+        paged_of(&rt, rt.alloc(), 256, *frames, *refused, *why)?;
     }
-    paged_of(&rt, rt.alloc(), 255, 0, Some(10)).note("neither will do")
+    paged_of(&rt, rt.alloc(), 255, 0, Some(10), "neither will do")
 }

@@ -1,6 +1,5 @@
 //! The numbers and addresses of refusals.
 use memory::faults::{MemoryFault, Unfit};
-use std::test::*;
 
 const FAULTS: [(MemoryFault, u8, u32); 4] = [
     (MemoryFault::Outside(0), 11, 0),
@@ -10,15 +9,13 @@ const FAULTS: [(MemoryFault, u8, u32); 4] = [
 ];
 
 #[test]
-fn faults(rt: HostRuntime) -> Result<(), Fail> {
+fn faults(rt: HostRuntime) {
     for (fault, number, address) in &FAULTS {
         assert_eq!(rt; (fault.number(), fault.address()), (*number, *address));
     }
-    Ok(())
 }
 
 #[test]
-fn unfit(rt: HostRuntime) -> Result<(), Fail> {
+fn unfit(rt: HostRuntime) {
     assert_eq!(rt; (Unfit::Size.number(), Unfit::Frames.number()), (10, 10));
-    Ok(())
 }

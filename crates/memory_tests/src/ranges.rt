@@ -4,7 +4,7 @@ use crate::made::{flat, paged};
 use memory::memories::Memory;
 use memory::ranges::{copy, write};
 use std::process::Abort;
-use std::test::*;
+use std::test::Fail;
 
 const SIX: [u8; 6] = [1, 2, 3, 4, 5, 6];
 
@@ -30,13 +30,21 @@ const ONE_FRAME: [(u32, Told<()>, u32, &str); 3] = [
 ];
 
 // The bytes that were put stand there, and those behind them do not.
-fn stands<M: Memory>(rt: &impl Abort, memory: &M, base: u32, count: u32) -> Result<(), Fail> {
+fn stands<M: Memory>(
+    rt: &impl Abort,
+    memory: &M,
+    base: u32,
+    count: u32,
+    name: &str,
+    why: &str,
+) -> Result<(), Fail> {
     for (i, byte) in (0u32..).zip(SIX) {
         let Some(at) = base.checked_add(i) else {
             return Ok(());
         };
         if at < memory.size() {
-            assert_eq!(rt; told(memory.read(at))? == byte, i < count);
+            let is_put = told(memory.read(at))? == byte;
+            assert_eq!(rt; is_put, i < count, "{name}: {why}");
         }
     }
     Ok(())
@@ -48,10 +56,16 @@ fn writes<M: Memory>(
     base: u32,
     answer: Told<()>,
     count: u32,
+    name: &str,
+    why: &str,
 ) -> Result<(), Fail> {
-    assert_eq!(rt; told(write(memory, base, &SIX)), answer);
-    stands(rt, memory, base, count)?;
-    assert_eq!(rt; told(write(memory, base, &[])), Ok(()), "nothing to write");
+    assert_eq!(rt; told(write(memory, base, &SIX)), answer, "{name}: {why}");
+    stands(rt, memory, base, count, name, why)?;
+    assert_eq!(rt;
+        told(write(memory, base, &[])),
+        Ok(()),
+        "{name}: {why}: nothing to write"
+    );
     Ok(())
 }
 
@@ -59,19 +73,13 @@ fn writes<M: Memory>(
 fn writes_six_bytes(rt: HostRuntime) -> Result<(), Fail> {
     for (base, answer, count, why) in &WHOLE {
         let mut memory = flat(rt.alloc(), 512, 0x77)?;
-        writes(&rt, &mut memory, *base, *answer, *count)
-            .note("flat")
-            .note(*why)?;
+        writes(&rt, &mut memory, *base, *answer, *count, "flat", *why)?;
         let mut memory = paged(rt.alloc(), 512, 2)?;
-        writes(&rt, &mut memory, *base, *answer, *count)
-            .note("paged")
-            .note(*why)?;
+        writes(&rt, &mut memory, *base, *answer, *count, "paged", *why)?;
     }
     for (base, answer, count, why) in &ONE_FRAME {
         let mut memory = paged(rt.alloc(), 512, 1)?;
-        writes(&rt, &mut memory, *base, *answer, *count)
-            .note("one frame")
-            .note(*why)?;
+        writes(&rt, &mut memory, *base, *answer, *count, "one frame", *why)?;
     }
     Ok(())
 }
@@ -83,29 +91,51 @@ fn copies<M: Memory>(
     base: u32,
     answer: Told<()>,
     wanted: [u8; 6],
-) -> Result<(), Fail> {
+    name: &str,
+    why: &str,
+) {
     let mut buffer = [9; 6];
-    assert_eq!(rt; told(copy(memory, base, &mut buffer)), answer);
-    assert_eq!(rt; buffer, wanted);
+    assert_eq!(rt;
+        told(copy(memory, base, &mut buffer)),
+        answer,
+        "{name}: {why}"
+    );
+    assert_eq!(rt; buffer, wanted, "{name}: {why}");
     assert_eq!(rt;
         told(copy(memory, base, &mut [])),
         Ok(()),
-        "nothing to copy"
+        "{name}: {why}: nothing to copy"
     );
-    Ok(())
 }
 
-fn copies_all<M: Memory>(rt: &impl Abort, memory: &mut M) -> Result<(), Fail> {
-    assert_eq!(rt; told(write(memory, 253, &SIX)), Ok(()));
-    copies(rt, memory, 253, Ok(()), SIX).note("over a page's edge")?;
-    copies(rt, memory, 506, Ok(()), [0; 6]).note("up to the end")?;
-    copies(rt, memory, 509, Err((11, 512)), [0, 0, 0, 9, 9, 9]).note("past the end")?;
-    copies(rt, memory, 512, Err((11, 512)), [9; 6]).note("outside")?;
-    copies(rt, memory, 4_294_967_295, Err((11, 4_294_967_295)), [9; 6]).note("the last address")
+fn copies_all<M: Memory>(rt: &impl Abort, memory: &mut M, name: &str) {
+    assert_eq!(rt; told(write(memory, 253, &SIX)), Ok(()), "{name}");
+    copies(rt, memory, 253, Ok(()), SIX, name, "over a page's edge");
+    copies(rt, memory, 506, Ok(()), [0; 6], name, "up to the end");
+    copies(
+        rt,
+        memory,
+        509,
+        Err((11, 512)),
+        [0, 0, 0, 9, 9, 9],
+        name,
+        "past the end",
+    );
+    copies(rt, memory, 512, Err((11, 512)), [9; 6], name, "outside");
+    copies(
+        rt,
+        memory,
+        4_294_967_295,
+        Err((11, 4_294_967_295)),
+        [9; 6],
+        name,
+        "the last address",
+    );
 }
 
 #[test]
 fn copies_six_bytes(rt: HostRuntime) -> Result<(), Fail> {
-    copies_all(&rt, &mut flat(rt.alloc(), 512, 0)?).note("flat")?;
-    copies_all(&rt, &mut paged(rt.alloc(), 512, 2)?).note("paged")
+    copies_all(&rt, &mut flat(rt.alloc(), 512, 0)?, "flat");
+    copies_all(&rt, &mut paged(rt.alloc(), 512, 2)?, "paged");
+    Ok(())
 }

@@ -1,9 +1,10 @@
 //! The same puts and reads over a flat memory, a paged memory and plain bytes. With no argument it prints a checksum of each,
 //! and with the argument `time` a table of million bytes a second for puts and for reads, each with a checksum.
+#![tactic(auto)]
+
 use clock::{put_rate, read_rate};
 use memory::faults::MemoryFault;
 use memory::flat::Flat;
-use memory::memories::Memory;
 use memory::paged::Paged;
 use std::alloc::{AllocError, Global};
 use std::{env, io};

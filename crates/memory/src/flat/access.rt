@@ -1,6 +1,6 @@
 //! Reads and puts of a flat memory.
 ghost use Rattle.memory.specs.FlatView.{flat_view};
-ghost use Rattle.memory.specs.FlatsLemmas.{flat-valid};
+ghost use Rattle.memory.specs.FlatsLemmas.{flat_valid};
 
 use crate::data::Datum;
 use crate::faults::MemoryFault;
@@ -11,7 +11,7 @@ use crate::memories::Memory;
 impl Memory for Flat {
     ghost meaning = { flat_view };
 
-    ghost valid = { λ x. flat-valid x.bytes.items x.fit x.octets };
+    ghost valid = { λ x. flat_valid x.bytes.items x.fit x.octets };
 
     fn size(&self) -> u32 {
         if self.bytes.is_empty() {

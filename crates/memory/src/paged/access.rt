@@ -3,7 +3,7 @@ ghost use Rattle.std.specs.Prelude.{◌≡◌, ◌+◌, ◌%◌, ◌<◌, ◌≤
 ghost use Rattle.memory.specs.Access.{put_of};
 ghost use Rattle.memory.specs.Data.{parts};
 ghost use Rattle.memory.specs.PagedView.{paged_view};
-ghost use Rattle.memory.specs.Views.{paged-valid};
+ghost use Rattle.memory.specs.Views.{paged_valid};
 
 use crate::data::Datum;
 use crate::faults::MemoryFault;
@@ -68,7 +68,7 @@ impl Paged {
 impl Memory for Paged {
     ghost meaning = { paged_view };
 
-    ghost valid = { λ x. paged-valid x.size x.table x.frames.items x.used x.fit x.pages x.mapped x.sound };
+    ghost valid = { λ x. paged_valid x.size x.table x.frames.items x.used x.fit x.pages x.mapped x.sound };
 
     fn size(&self) -> u32 {
         self.size

@@ -11,20 +11,20 @@ loop-byte-preserved g c =
     let l = c.loop-byte in
     let h : l.byte-index < length c.args.buffer.now = omega arith in
     turn_ok (g.M.Memory.meaning c.args.memory.now) c.args.base l.byte-index l.at l.buffer c.args.buffer.now
-    (g.met.M.Memory.valid c.args.memory.now) h l.invariant.0 l.invariant.1 l.invariant.2 c.in-ok-byte.field-0 c.in-ok-byte.ensures
+    (g.met.M.Memory.valid c.args.memory.now) h l.invariant.0 l.invariant.1 l.invariant.2 c.in_ok-byte.field-0 c.in_ok-byte.ensures
 
-pub returns-in-err-byte : goal.returns-in-err-byte
-returns-in-err-byte g c =
+pub returns-in_err-byte : goal.returns-in_err-byte
+returns-in_err-byte g c =
     let l = c.loop-byte in
     let h : l.byte-index < length c.args.buffer.now = omega arith in
-    let p = err_from_is_err_and c.from-residual.result c.from-residual.ensures.1 in
+    let p = err_from_is_err_and c.from_residual.result c.from_residual.ensures.1 in
     turn_err (g.M.Memory.meaning c.args.memory.now) c.args.base l.byte-index l.at l.buffer c.args.buffer.now
-    (g.met.M.Memory.valid c.args.memory.now) h l.invariant.0 l.invariant.1 l.invariant.2 c.in-err-byte.field-0.0 p.0
-    c.from-residual.result p.1 p.2 c.in-err-byte.ensures
+    (g.met.M.Memory.valid c.args.memory.now) h l.invariant.0 l.invariant.1 l.invariant.2 c.in_err-byte.field-0.0 p.0
+    c.from_residual.result p.1 p.2 c.in_err-byte.ensures
 
-pub overflow-add-at : goal.overflow-add-at
-overflow-add-at g c =
-    let t = read_ok (g.M.Memory.meaning c.args.memory.now) c.loop-byte.at c.in-ok-byte.field-0 c.in-ok-byte.ensures in
+pub overflow_add-at : goal.overflow_add-at
+overflow_add-at g c =
+    let t = read_ok (g.M.Memory.meaning c.args.memory.now) c.loop-byte.at c.in_ok-byte.field-0 c.in_ok-byte.ensures in
     let few = (g.met.M.Memory.valid c.args.memory.now).fit.1 in
     search rules
 

@@ -4,4 +4,4 @@ use Rattle.memory.proofs.paged.Paged.fresh.Goals as goal
 
 pub returns : goal.returns
 returns c =
-    fresh_same c.args.size c.no-frames.result (vec_items c.args.frames) (omega (arith, c.requires.fit, c.no-frames.ensures.pages)) c.no-frames.ensures.none
+    fresh_same c.args.size c.no_frames.result (vec_items c.args.frames) (omega (arith, c.requires.fit, c.no_frames.ensures.pages)) c.no_frames.ensures.none

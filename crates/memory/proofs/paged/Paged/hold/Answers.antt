@@ -1,4 +1,4 @@
-use Rattle.std.proofs.Common.{◌≡◌, ℕ, ◌+◌, ◌/◌, ◌<◌, ◌≤◌, cond, length, get_or, set, is_some, Some, None, vec_items, sym, refl, ap, ◌∙◌, arith}
+use Rattle.std.proofs.Common.{◌+◌, ◌/◌, ◌<◌, ◌≤◌, length, Some, None, vec_items, sym, refl, ap, ◌∙◌, arith}
 use Rattle.std.proofs.lemmas.List.{length-set, get_or-set_same}
 use Rattle.memory.specs.Blanks.{zero_octets}
 use Rattle.memory.specs.Tables.{mapped_hold, apart_hold, counted_hold, sound_hold}
@@ -18,44 +18,33 @@ returns-in-Some c =
 pub returns-then-frame-len : goal.returns-then-frame-len
 returns-then-frame-len c =
     let s = c.args.self.now in
-    let none = sym c.frame.ensures ∙ c.in-default.is in
+    let none = sym c.frame.ensures ∙ c.in_default.is in
     (refl, omega (arith, lacks_none s.size s.table (vec_items s.frames) s.used c.args.page (omega (arith, s.fit)) none, s.frames.ok.0))
 
-pub invariant-of-self : goal.invariant-of-self
-invariant-of-self c =
+pub invariant_of-self : goal.invariant_of-self
+invariant_of-self c =
     let s = c.args.self.now in
     let xs = vec_items s.frames in
-    let none = sym c.frame.ensures ∙ c.in-default.is in
+    let none = sym c.frame.ensures ∙ c.in_default.is in
     let p : c.args.page < length s.table = omega (arith, s.fit, s.pages) in
     let l : s.used < length xs = omega (arith, s.within, s.frames.ok.0) in
-    let n = length-set xs s.used c.clear.new.frame in (
-      s.fit,
-      (
-        length-set s.table c.args.page (Some s.used) ∙ s.pages,
-        (
-          omega (arith, n, s.few),
-          (
-            omega (arith, n, l),
-            (
-              ap (λ k. k + 1) s.counted ∙ sym (counted_hold s.table s.used c.args.page p none (s.size / 256) (omega (arith, s.fit))),
-              (
-                mapped_hold s.table s.used c.args.page p none s.mapped,
-                (
-                  apart_hold s.table s.used c.args.page p none s.mapped s.apart,
-                  (sound_hold xs c.clear.new.frame c.clear.ensures.length (zero_octets c.clear.new.frame c.clear.ensures.zeros) s.used l s.sound, tt),
-                ),
-              ),
-            ),
-          ),
-        ),
-      ),
-    )
+    let n = length-set xs s.used c.clear.new.frame in
+    record {
+      fit = s.fit;
+      pages = length-set s.table c.args.page (Some s.used) ∙ s.pages;
+      few = omega (arith, n, s.few);
+      within = omega (arith, n, l);
+      counted = ap (λ k. k + 1) s.counted ∙ sym (counted_hold s.table s.used c.args.page p none (s.size / 256) (omega (arith, s.fit)));
+      mapped = mapped_hold s.table s.used c.args.page p none s.mapped;
+      apart = apart_hold s.table s.used c.args.page p none s.mapped s.apart;
+      sound = sound_hold xs c.clear.new.frame c.clear.ensures.length (zero_octets c.clear.new.frame c.clear.ensures.zeros) s.used l s.sound;
+    }
 
 pub returns : goal.returns
 returns c =
     let s = c.args.self.now in
     let xs = vec_items s.frames in
-    let none = sym c.frame.ensures ∙ c.in-default.is in
+    let none = sym c.frame.ensures ∙ c.in_default.is in
     let p : c.args.page < s.size / 256 = omega (arith, s.fit) in
     let t : s.size / 256 ≤ length s.table = omega (arith, s.fit, s.pages) in
     let l : s.used < length xs = omega (arith, s.within, s.frames.ok.0) in (

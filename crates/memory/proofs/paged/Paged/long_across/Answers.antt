@@ -1,4 +1,4 @@
-use Rattle.std.proofs.Common.{◌≡◌, ℕ, ◌+◌, ◌-◌, ◌*◌, ◌/◌, ◌%◌, ◌^◌, vec_items, sym, ap, ◌∙◌, arith}
+use Rattle.std.proofs.Common.{◌≡◌, ◌+◌, ◌-◌, ◌*◌, ◌/◌, ◌%◌, ◌^◌, vec_items, ap, ◌∙◌, arith}
 use lib.Bits.{bit_or}
 use Rattle.memory.specs.Data.{long_at}
 use Rattle.memory.specs.PagedView.{paged_view}
@@ -12,6 +12,6 @@ returns c =
     let a = c.args.at in
     let v = paged_valid s.size s.table (vec_items s.frames) s.used s.fit s.pages s.mapped s.sound in
     let whole : a - a % 4 + a % 4 ≡ a = omega arith in
-    ap (λ l. bit_or (l / 2 ^ (8 * (a % 4))) (c.long-within-high.result * 2 ^ (32 - 8 * (a % 4)) % 2 ^ 32)) c.long-within-low.ensures
-    ∙ (ap (λ h. bit_or (long_at (paged_view s).bytes (a - a % 4) / 2 ^ (8 * (a % 4))) (h * 2 ^ (32 - 8 * (a % 4)) % 2 ^ 32)) c.long-within-high.ensures
+    ap (λ l. bit_or (l / 2 ^ (8 * (a % 4))) (c.long_within-high.result * 2 ^ (32 - 8 * (a % 4)) % 2 ^ 32)) c.long_within-low.ensures
+    ∙ (ap (λ h. bit_or (long_at (paged_view s).bytes (a - a % 4) / 2 ^ (8 * (a % 4))) (h * 2 ^ (32 - 8 * (a % 4)) % 2 ^ 32)) c.long_within-high.ensures
     ∙ (across (paged_view s).bytes (a - a % 4) v.octets (a % 4) (omega (arith, c.requires.across)) (omega arith) ∙ ap (long_at (paged_view s).bytes) whole))

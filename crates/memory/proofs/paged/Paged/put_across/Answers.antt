@@ -1,22 +1,21 @@
-use Rattle.std.proofs.Common.{◌≡◌, ◌+◌, ◌/◌, ◌<◌, ◌≤◌, true, false, length, vec_items, sym, refl, ap, ◌∙◌, subst, arith}
+use Rattle.std.proofs.Common.{◌+◌, ◌/◌, ◌≤◌, vec_items, sym, refl, ap, ◌∙◌, subst, arith}
 use Rattle.memory.specs.Data.{parts}
 use Rattle.memory.specs.Meaning.{Meaning, holds}
 use Rattle.memory.specs.PagedView.{paged_view}
-use Rattle.memory.specs.Holding.{BothHeld}
 use Rattle.memory.specs.declared.data.Datum.TheVariants.{Long}
 use Rattle.memory.proofs.Steps.{across_ok, across_full, first_held, second_held}
 use Rattle.memory.specs.Views.{paged_valid}
 use Rattle.memory.proofs.paged.Paged.put_across.Goals as goal
 
-pub returns-then-not-hold-both : goal.returns-then-not-hold-both
-returns-then-not-hold-both c =
+pub returns-then-not-hold_both : goal.returns-then-not-hold_both
+returns-then-not-hold_both c =
     across_full (paged_view c.args.self.now) c.args.address (parts (Long c.args.number)) refl c.requires.inside c.requires.across
-    (paged_view c.hold-both.new.self) c.if-not-hold-both.ensures
+    (paged_view c.hold_both.new.self) c.if-not-hold_both.ensures
 
-pub write-across-requires : goal.write-across-requires
-write-across-requires c =
+pub write_across-requires : goal.write_across-requires
+write_across-requires c =
     let s = c.args.self.now in
-    let e = c.if-not-hold-both.ensures.0 in
+    let e = c.if-not-hold_both.ensures.0 in
     let v = (paged_valid s.size s.table (vec_items s.frames) s.used s.fit s.pages s.mapped s.sound).all_pages in
     record {
       inside = subst (λ n. c.args.address + 4 ≤ Meaning.size n) (sym e) c.requires.inside;
@@ -27,4 +26,4 @@ write-across-requires c =
 pub returns : goal.returns
 returns c =
     across_ok (paged_view c.args.self.now) c.args.address (parts (Long c.args.number)) refl c.requires.inside c.requires.across
-    (paged_view c.hold-both.new.self) (paged_view c.write-across.new.self) c.if-not-hold-both.ensures c.write-across.ensures
+    (paged_view c.hold_both.new.self) (paged_view c.write_across.new.self) c.if-not-hold_both.ensures c.write_across.ensures

@@ -1,4 +1,3 @@
-use Rattle.std.proofs.Common.{◌/◌, sym, arith}
 use Rattle.memory.specs.Data.{parts}
 use Rattle.memory.specs.PagedView.{paged_view}
 use Rattle.memory.specs.Puts.{some_part}

@@ -1,4 +1,4 @@
-use Rattle.std.proofs.Common.{ℕ, refl}
+use Rattle.std.proofs.Common.{ℕ}
 use Rattle.std.proofs.lemmas.List.{length-replicate}
 use Rattle.memory.specs.Blanks.{get_d_filled}
 use Rattle.memory.proofs.paged.frames.clear.Goals as goal

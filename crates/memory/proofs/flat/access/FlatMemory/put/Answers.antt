@@ -12,17 +12,20 @@ module _ (v : Vec ℕ Global) (w : List ℕ) (a : ℕ) (bs : List ℕ) (e : w �
   filled : (with_items v w).items ≡ laid v.items a bs
   filled = with_items_is v w (ap length e ∙ (length_laid bs v.items a ∙ sym v.ok.0)) ∙ e
 
-pub invariant-of-self : goal.invariant-of-self
-invariant-of-self c =
+pub invariant_of-self : goal.invariant_of-self
+invariant_of-self c =
     let s = c.args.self.now in
-    let e = c.lay.ensures.value ∙ ap (λ xs. laid xs c.args.address (parts c.args.datum)) c.as-mut-slice.ensures.value in
+    let e = c.lay.ensures.value ∙ ap (λ xs. laid xs c.args.address (parts c.args.datum)) c.as_mut_slice.ensures.value in
     let f = filled s.bytes c.lay.new.bytes c.args.address (parts c.args.datum) e in
-    (rw f (laid_kept (vec_items s.bytes) (parts c.args.datum) c.args.address s.fit), (rw (f ∙ sym e) (c.lay.ensures.octets (rw c.as-mut-slice.ensures.value s.octets)), tt))
+    record {
+      fit = rw f (laid_kept (vec_items s.bytes) (parts c.args.datum) c.args.address s.fit);
+      octets = rw (f ∙ sym e) (c.lay.ensures.octets (rw c.as_mut_slice.ensures.value s.octets));
+    }
 
 pub returns-then-end-len : goal.returns-then-end-len
 returns-then-end-len c =
     let s = c.args.self.now in
-    let e = c.lay.ensures.value ∙ ap (λ xs. laid xs c.args.address (parts c.args.datum)) c.as-mut-slice.ensures.value in
+    let e = c.lay.ensures.value ∙ ap (λ xs. laid xs c.args.address (parts c.args.datum)) c.as_mut_slice.ensures.value in
     let f = filled s.bytes c.lay.new.bytes c.args.address (parts c.args.datum) e in
     rw f (flat_put (vec_items s.bytes) (parts c.args.datum) c.args.address s.fit (some_part c.args.datum) (omega (arith, s.bytes.ok.0)))
 

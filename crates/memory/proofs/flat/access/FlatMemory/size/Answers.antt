@@ -5,8 +5,8 @@ use Rattle.memory.specs.Blanks.{blank_size}
 use Rattle.memory.specs.FlatsLemmas.{empty_means}
 use Rattle.memory.proofs.flat.access.FlatMemory.size.Goals as goal
 
-pub returns-then-is-empty : goal.returns-then-is-empty
-returns-then-is-empty c =
+pub returns-then-is_empty : goal.returns-then-is_empty
+returns-then-is_empty c =
     let v = c.args.self.now.bytes in
-    let e = eqb-true v.len 0 (sym c.if-is-empty.ensures) in
+    let e = eqb-true v.len 0 (sym c.if-is_empty.ensures) in
     sym (ap (λ m. Meaning.size m) (empty_means v.items (omega (arith, v.ok.0))) ∙ blank_size 256 0)
