@@ -10,10 +10,10 @@ use Rattle.memory.specs.declared.faults.MemoryFault.{MemoryFault}
 use Rattle.memory.specs.declared.faults.MemoryFault.TheVariants.{NoFreePage}
 use Rattle.memory.specs.Puts.{put_full}
 
-pub get_d_filled : {A : Type 0} (n k : ℕ) (d : A) → slice_index_or (replicate n d) k d ≡ d
-get_d_filled zero k d = refl
-get_d_filled (suc n) zero d = refl
-get_d_filled (suc n) (suc k) d = get_d_filled n k d
+pub get_or_filled : {A : Type 0} (n k : ℕ) (d : A) → slice_index_or (replicate n d) k d ≡ d
+get_or_filled zero k d = refl
+get_or_filled (suc n) zero d = refl
+get_or_filled (suc n) (suc k) d = get_or_filled n k d
 
 pub blank_size : (n k : ℕ) → (blank_memory n k).size ≡ n
 unfolding blank_memory
@@ -25,11 +25,11 @@ blank_free n k = refl
 
 pub blank_byte : (n k a : ℕ) → slice_index (blank_memory n k).bytes a ≡ 0
 unfolding blank_memory
-blank_byte n k a = get_d_filled n a 0
+blank_byte n k a = get_or_filled n a 0
 
 pub blank_page : (n k p : ℕ) → holds (blank_memory n k) p ≡ false
 unfolding blank_memory
-blank_page n k p = get_d_filled (n / 256) p false
+blank_page n k p = get_or_filled (n / 256) p false
 
 pub blank_valid : (n k : ℕ) → Fit n → Valid (blank_memory n k)
 unfolding blank_memory
@@ -37,9 +37,9 @@ blank_valid n k h =
     record {
       fit = h;
       all_bytes = length-replicate n 0;
-      octets = λ i. rw (get_d_filled {A = ℕ} n i 0) (omega arith);
+      octets = λ i. rw (get_or_filled {A = ℕ} n i 0) (omega arith);
       all_pages = rw length-replicate (omega arith);
-      blank = λ i no. get_d_filled {A = ℕ} n i 0;
+      blank = λ i no. get_or_filled {A = ℕ} n i 0;
     }
 
 pub unfit_read : (a : ℕ) → a < 256 → ◌≡◌ {A = Result ℕ MemoryFault} (Ok 0) (read_of unfit_memory a)

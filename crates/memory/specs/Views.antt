@@ -11,7 +11,7 @@ use Rattle.memory.specs.Data.{long_at}
 use Rattle.memory.specs.Meaning.{Valid, Fit, blank_memory}
 use Rattle.memory.specs.Holding.{with_page, with_bytes}
 use Rattle.memory.specs.Pages.{cell, byte_at, paged_meaning, Mapped, Apart, Sound}
-use Rattle.memory.specs.Blanks.{get_d_filled}
+use Rattle.memory.specs.Blanks.{get_or_filled}
 use Rattle.memory.specs.Puts.{meaning_same}
 use Rattle.memory.specs.Tables.{held_at, none_of, take_set_at}
 
@@ -71,7 +71,7 @@ fresh_same n ts xs long none =
     (length-map (take (n / 256) ts) is_some ∙ (length-take-le (n / 256) ts long ∙ sym (length-replicate (n / 256) false)))
     (λ i h.
     let l : i < n / 256 = omega (arith, length-map (take (n / 256) ts) is_some, length-take-le (n / 256) ts long) in
-    held_at (n / 256) ts i l ∙ (ap is_some (none i) ∙ sym (get_d_filled {A = Bool} (n / 256) i false))))
+    held_at (n / 256) ts i l ∙ (ap is_some (none i) ∙ sym (get_or_filled {A = Bool} (n / 256) i false))))
     (omega arith)
 
 -- reads

@@ -36,7 +36,7 @@ holds_from bs (x ∷ e) f p h k =
     let d : drop (suc p) bs ≡ e ++ f = cc in
     (cc, holds_from bs e f (p + 1) (omega arith) (rw add-one d))
 
--- as holds-from, for what has a byte
+-- as holds_from, for what has a byte
 pub holds_some : (bs e f : List ℕ) (p x : ℕ) → drop p bs ≡ x ∷ (e ++ f) → Holds bs p (x ∷ e)
 holds_some bs e f p x k = holds_from bs (x ∷ e) f p (omega (arith, inside bs (e ++ f) p x k)) k
 
