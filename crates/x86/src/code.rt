@@ -2,6 +2,8 @@
 ghost use Rattle.std.specs.Prelude.{◌≡◌, ℕ, List, length, slice_index};
 ghost use Rattle.x86.specs.Octets.{Octets};
 
+use std::convert::AsSlice;
+
 /// Bytes that can be read and do not change while they are held.
 pub trait Code {
     ghost bytes: { Self → List ℕ };
@@ -14,29 +16,15 @@ pub trait Code {
         ensures { result ≡ slice_index (bytes self.now) i };
 }
 
-impl Code for Vec<u8> {
-    ghost bytes = { λ v. v.items };
+impl<S: AsSlice<u8>> Code for S {
+    ghost bytes = { S.items };
 
     fn len(&self) -> usize {
         self.as_slice().len()
     }
 
     fn byte(&self, i: usize) -> u8 {
-        if i < Vec::len(self) { self[i] } else { 0 }
-    }
-}
-
-impl Code for &[u8] {
-    ghost bytes = { λ s. s.now };
-
-    fn len(&self) -> usize {
-        let bytes: &[u8] = *self;
-        bytes.len()
-    }
-
-    fn byte(&self, i: usize) -> u8 {
-        let s: &[u8] = *self;
-        if i < s.len() { s[i] } else { 0 }
+        self.as_slice().get(i).copied().unwrap_or(0)
     }
 }
 

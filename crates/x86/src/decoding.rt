@@ -15,9 +15,12 @@ fn long<C: Code>(code: &C, at: usize) -> u32
     requires { at < 2 ^ 33 }
     ensures { result ≡ long_at (C.bytes code.now) at }
 {
-    let low = u32::from(code.byte(at)) + 256 * u32::from(code.byte(at + 1));
-    let high = u32::from(code.byte(at + 2)) + 256 * u32::from(code.byte(at + 3));
-    low + 65536 * high
+    u32::from_le_bytes([
+        code.byte(at),
+        code.byte(at + 1),
+        code.byte(at + 2),
+        code.byte(at + 3),
+    ])
 }
 
 fn value<C: Code>(code: &C, at: usize, width: Width) -> u32
@@ -76,13 +79,8 @@ fn base(mode: u8, number: u8) -> Option<Register>
 fn index(scale: u8, number: u8) -> Index
     ensures { result ≡ index_of scale number }
 {
-    let register = if number == 4 {
-        None
-    } else {
-        Some(Register::numbered(number))
-    };
     Index {
-        register,
+        register: (number != 4).then(|| Register::numbered(number)),
         scale: Scale::numbered(scale),
     }
 }

@@ -78,9 +78,9 @@ impl Direct {
         ensures { result ≡ displacement_of self }
     {
         match self {
-            Self::Jump(displacement) => displacement,
-            Self::Call(displacement) => displacement,
-            Self::Conditional(_, displacement) => displacement,
+            Self::Jump(displacement)
+            | Self::Call(displacement)
+            | Self::Conditional(_, displacement) => displacement,
         }
     }
 

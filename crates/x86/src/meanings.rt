@@ -77,11 +77,11 @@ impl WithImmediate {
         ensures { result ≡ immediate_width self }
     {
         match self {
-            Self::Accumulator(width) => width,
-            Self::Register(width) => width,
-            Self::Jump(width) => width,
+            Self::Accumulator(width)
+            | Self::Register(width)
+            | Self::Jump(width)
+            | Self::Conditional(width) => width,
             Self::Call => Width::Long,
-            Self::Conditional(width) => width,
             Self::Interrupt => Width::Byte,
         }
     }
@@ -177,9 +177,8 @@ impl WithBoth {
         ensures { result ≡ both_width self }
     {
         match self {
-            Self::Arithmetic(width) => width,
+            Self::Arithmetic(width) | Self::Move(width) => width,
             Self::SignExtended => Width::Byte,
-            Self::Move(width) => width,
         }
     }
 

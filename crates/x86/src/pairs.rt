@@ -50,11 +50,8 @@ fn masked<C: Code>(code: &C, at: usize) -> bool
     requires { at < 2 ^ 32 }
     ensures { result ≡ masks (C.bytes code.now) at }
 {
-    let named = code.byte(at + 1);
     code.byte(at) == 0x83
-        && named >= 0xe0
-        && named <= 0xe7
-        && named != 0xe4
+        && matches!(code.byte(at + 1), 0xe0..=0xe3 | 0xe5..=0xe7)
         && code.byte(at + 2) == 0xe0
         && code.byte(at + 3) == 0xff
 }
@@ -63,20 +60,17 @@ fn transferred(number: u8, byte: u8) -> Option<Pair>
     requires { number < 16 }
     ensures { result ≡ transfer_at number byte }
 {
-    let register = Register::numbered(number);
-    if byte == 0xe0 + number {
-        Some(Pair {
-            register,
-            transfer: Transfer::Jump,
-        })
+    let transfer = if byte == 0xe0 + number {
+        Transfer::Jump
     } else if byte == 0xd0 + number {
-        Some(Pair {
-            register,
-            transfer: Transfer::Call,
-        })
+        Transfer::Call
     } else {
-        None
-    }
+        return None;
+    };
+    Some(Pair {
+        register: Register::numbered(number),
+        transfer,
+    })
 }
 
 // The pair at a place, if it ends inside the bytes.
