@@ -27,7 +27,7 @@ use Rattle.x86.specs.Decoded.{value_at, form_at, row_at, read_at, within, decode
 use Rattle.x86.specs.Instructions.{displacement_of}
 use Rattle.x86.specs.Rows as opcodes
 use Rattle.x86.specs.Rows.{look_up, one_byte_rows, two_byte_rows}
-use Rattle.automata.specs.Lengths.{if_direct, of_direct, direct_length_of, target_in, direct_target_of, aim_width}
+use Rattle.automata.specs.Lengths.{target_by_length, if_direct, of_direct, direct_length_of, target_in, direct_target_of, aim_width}
 
 -- only a direct form is in question
 abbrev Aims : List ℕ → ℕ → ℕ → Instruction → Type 0
@@ -152,33 +152,17 @@ decoded_by : (bs : List ℕ) (p : ℕ) (o : Option (Instruction × ℕ)) (d : De
 decoded_by bs p None d h e = let z : ◌≡◌ {A = ℕ} 0 1 = cc in absurd (omega arith)
 decoded_by bs p (Some x) d h e = within_last bs p x d (leb x.1 (length bs)) (read_last bs p (eqb (get_or bs p 0) 0x0F) x h) e
 
--- where a direct form of n bytes goes to, by its last bytes
-abbrev pub aim : List ℕ → ℕ → ℕ → ℕ
-aim bs p n = ((p + n) % 2 ^ 32 + extended (aim_width n) (value_at (aim_width n) bs (p + (n - width_bytes (aim_width n))))) % 2 ^ 32
-
-target_by : (bs : List ℕ) (p m n : ℕ) (i : Instruction) → Last bs p m i → if_direct m i ≡ Some n → target_in (Some (instruction_of i m)) p ≡ Some (aim bs p n)
+target_by : (bs : List ℕ) (p m n : ℕ) (i : Instruction) → Last bs p m i → if_direct m i ≡ Some n → target_in (Some (instruction_of i m)) p ≡ Some (target_by_length bs p n)
 unfolding Last
 target_by bs p m n (Straight i) a e = let z : ◌≡◌ {A = ℕ} 0 1 = cc in absurd (omega arith)
 target_by bs p m n (Loose i) a e = let z : ◌≡◌ {A = ℕ} 0 1 = cc in absurd (omega arith)
 target_by bs p m n (Direct i) a e =
     let z : m ≡ n = cc in
-    ap (λ (k : ℕ). Some (((p + m) % 2 ^ 32 + k) % 2 ^ 32)) a ∙ ap (λ (k : ℕ). Some (aim bs p k)) z
+    ap (λ (k : ℕ). Some (((p + m) % 2 ^ 32 + k) % 2 ^ 32)) a ∙ ap (λ (k : ℕ). Some (target_by_length bs p k)) z
 
-target_of_lem : (bs : List ℕ) (p n : ℕ) (o : Option Decoded) → decoded_at bs p ≡ o → of_direct o ≡ Some n → target_in o p ≡ Some (aim bs p n)
+target_of_lem : (bs : List ℕ) (p n : ℕ) (o : Option Decoded) → decoded_at bs p ≡ o → of_direct o ≡ Some n → target_in o p ≡ Some (target_by_length bs p n)
 target_of_lem bs p n None h e = let z : ◌≡◌ {A = ℕ} 0 1 = cc in absurd (omega arith)
 target_of_lem bs p n (Some d) h e = target_by bs p d.length n d.instruction (decoded_by bs p (read_at bs p) d refl h) e
 
-pub target_is : (bs : List ℕ) (p n : ℕ) → direct_length_of bs p ≡ Some n → direct_target_of bs p ≡ Some (aim bs p n)
+pub target_is : (bs : List ℕ) (p n : ℕ) → direct_length_of bs p ≡ Some n → direct_target_of bs p ≡ Some (target_by_length bs p n)
 target_is bs p n e = target_of_lem bs p n (decoded_at bs p) refl e
-
-no_target_by : (m p : ℕ) (i : Instruction) → if_direct m i ≡ None → target_in (Some (instruction_of i m)) p ≡ None
-no_target_by m p (Straight i) e = refl
-no_target_by m p (Loose i) e = refl
-no_target_by m p (Direct i) e = let z : ◌≡◌ {A = ℕ} 0 1 = cc in absurd (omega arith)
-
-no_target_of : (p : ℕ) (o : Option Decoded) → of_direct o ≡ None → target_in o p ≡ None
-no_target_of p None e = refl
-no_target_of p (Some d) e = no_target_by d.length p d.instruction e
-
-pub no_target : (bs : List ℕ) (p : ℕ) → direct_length_of bs p ≡ None → direct_target_of bs p ≡ None
-no_target bs p e = no_target_of p (decoded_at bs p) e

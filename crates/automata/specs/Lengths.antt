@@ -1,5 +1,5 @@
 -- How long the pair, the straight form or the direct form at a place is, by the grammar.
-use Rattle.std.specs.Prelude.{ℕ, ◌+◌, ◌-◌, cond, List, Some, None, Option, ◌==◌}
+use Rattle.std.specs.Prelude.{ℕ, ◌+◌, ◌-◌, ◌%◌, ◌^◌, cond, List, Some, None, Option, ◌==◌}
 use Rattle.x86.specs.declared.instructions.Instruction.{Instruction}
 use Rattle.x86.specs.declared.instructions.Instruction.TheVariants.{Straight, Direct, Loose}
 use Rattle.x86.specs.declared.instructions.Decoded.{Decoded}
@@ -58,3 +58,7 @@ aim_width n = cond (n == 2) Byte Long
 -- the displacement of a direct form of n bytes at p: its last bytes
 abbrev pub displacement_in : List ℕ → ℕ → ℕ → ℕ
 displacement_in bs p n = extended (aim_width n) (value_at (aim_width n) bs (p + (n - width_bytes (aim_width n))))
+
+-- where a direct form of n bytes at p goes to, by its last bytes
+abbrev pub target_by_length : List ℕ → ℕ → ℕ → ℕ
+target_by_length bs p n = ((p + n) % 2 ^ 32 + displacement_in bs p n) % 2 ^ 32

@@ -1,38 +1,20 @@
-//! The three patterns at an address, each decided by its table; the grammar says the same.
-ghost use Rattle.std.specs.Prelude.{◌≡◌, IfSome};
+//! The length of a pattern at an address, and the target of a direct form.
+ghost use Rattle.std.specs.Prelude.{◌≡◌, IfSome, Some};
 ghost use Rattle.x86.specs.Laws.{Inside};
-ghost use Rattle.automata.specs.Lengths.{pair_length_of, straight_length_of, direct_length_of, direct_target_of, displacement_in};
+ghost use Rattle.automata.specs.Lengths.{direct_length_of, direct_target_of, displacement_in, target_by_length};
 
-use crate::patterns::{Directs, Pairs, Straights};
-use crate::walks::walk;
+use crate::walks::{Automaton, walk};
 use x86::code::Code;
 use x86::decoding::number_at;
 use x86::registers::Width;
 
-/// The length of the pair at an address.
-pub fn pair_length<C: Code>(code: &C, at: u32) -> Option<u32>
-    ensures value { result ≡ pair_length_of (C.Code.bytes code.now) at }
+/// The length of a pattern at an address.
+pub fn length<A: Automaton, C: Code>(pattern: &A, code: &C, at: u32) -> Option<u32>
+    ensures value { result ≡ A.Automaton.grammar pattern.now (C.Code.bytes code.now) at }
     ensures inside { IfSome result (λ n. Inside (C.Code.bytes code.now) at n) }
 {
-    let length = walk(&Pairs, code, at as usize)?;
-    Some(length as u32)
-}
-
-/// The length of the straight form at an address.
-pub fn straight_length<C: Code>(code: &C, at: u32) -> Option<u32>
-    ensures value { result ≡ straight_length_of (C.Code.bytes code.now) at }
-    ensures inside { IfSome result (λ n. Inside (C.Code.bytes code.now) at n) }
-{
-    let length = walk(&Straights, code, at as usize)?;
-    Some(length as u32)
-}
-
-/// The length of the direct form at an address.
-pub fn direct_length<C: Code>(code: &C, at: u32) -> Option<u32>
-    ensures value { result ≡ direct_length_of (C.Code.bytes code.now) at }
-    ensures inside { IfSome result (λ n. Inside (C.Code.bytes code.now) at n) }
-{
-    let length = walk(&Directs, code, at as usize)?;
+    pattern.decides();
+    let length = walk(pattern, code, at as usize)?;
     Some(length as u32)
 }
 
@@ -47,11 +29,11 @@ fn displacement<C: Code>(code: &C, at: u32, length: u32) -> u32
     }
 }
 
-/// Where the direct form at an address goes to, modulo 2^32.
-pub fn direct_target<C: Code>(code: &C, at: u32) -> Option<u32>
-    ensures { result ≡ direct_target_of (C.Code.bytes code.now) at }
+/// Where a direct form of this length at an address goes to, modulo 2^32.
+pub fn target<C: Code>(code: &C, at: u32, length: u32) -> u32
+    ensures value { result ≡ target_by_length (C.Code.bytes code.now) at length }
+    ensures target { direct_length_of (C.Code.bytes code.now) at ≡ Some length → direct_target_of (C.Code.bytes code.now) at ≡ Some result }
 {
-    let length = direct_length(code, at)?;
     let displacement = displacement(code, at, length);
-    Some(at.wrapping_add(length).wrapping_add(displacement))
+    at.wrapping_add(length).wrapping_add(displacement)
 }

@@ -3,6 +3,6 @@
 #![tactic(auto)]
 
 pub mod lengths;
-mod patterns;
+pub mod patterns;
 mod tables;
-mod walks;
+pub mod walks;

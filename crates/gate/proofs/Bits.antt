@@ -1,7 +1,8 @@
 -- Bits of numbers, and bitmaps.
-use Rattle.std.proofs.Common.{◌≡◌, ℕ, zero, suc, ◌+◌, ◌-◌, ◌*◌, ◌/◌, ◌%◌, ◌^◌, ◌<◌, ◌≤◌, Bool, true, false, cond, ◌||◌, eqb, List, ◌∷◌, ◌++◌, length, replicate, sym, refl, ap, ◌∙◌, ⊎_elim, pow-suc, div-one, arith}
+use Rattle.std.proofs.Common.{◌≡◌, ℕ, zero, suc, ◌+◌, ◌-◌, ◌*◌, ◌/◌, ◌%◌, ◌^◌, ◌<◌, ◌≤◌, Bool, true, false, cond, ◌||◌, eqb, List, [], ◌∷◌, ◌++◌, length, replicate, sym, refl, ap, ◌∙◌, ⊎_elim, pow-suc, div-one, arith}
 use native.Mathlib.Nat.{pow-succ', div-div-eq-div-mul}
 use lib.Bits.{bit_or, or_block, or_zero_r}
+use Rattle.std.proofs.lemmas.List.{append-nil}
 use Rattle.std.proofs.lemmas.Bool.{eq-eqb, ne_eqb, cases_lt, cases_eq}
 use Rattle.gate.specs.Bitmaps.{bits, bitmap, marked, bit_at}
 
@@ -132,3 +133,10 @@ bit_at_lem f (suc k) i rest h =
     let r : bit_at (bitmap (λ j. f (8 + j)) k ++ rest) (i - 8) ≡ f (8 + (i - 8)) = bit_at_lem (λ j. f (8 + j)) k (i - 8) rest w in
     rw (d, m) (r ∙ ap f s))
     (cases_lt i 8)
+
+-- the same of a buffer that is all marks
+pub mark_all : (k i : ℕ) (f : ℕ → Bool) → i < 8 * k → marked (bitmap f k) i ≡ bitmap (λ j. f j || eqb i j) k
+mark_all k i f h = let m = mark_bitmap k i f [] h in rw (append-nil (bitmap f k), append-nil (bitmap (λ j. f j || eqb i j) k)) at m
+
+pub bit_of_all : (f : ℕ → Bool) (k i : ℕ) → i < 8 * k → bit_at (bitmap f k) i ≡ f i
+bit_of_all f k i h = let b = bit_at_lem f k i [] h in rw (append-nil (bitmap f k)) at b

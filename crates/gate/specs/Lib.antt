@@ -9,3 +9,4 @@ pub mod Laws
 pub mod Policy
 pub mod Exact
 pub mod Exports
+pub mod Images

@@ -58,6 +58,11 @@ unmarked k old = replicate k 0 ++ drop k old
 abbrev pub marks_of : (ℕ → Bool) → ℕ → List ℕ → List ℕ
 marks_of f k old = bitmap f k ++ drop k old
 
+-- what a walk leaves of a buffer of k bytes: the marks of f, and none if it is refused
+abbrev pub shown_after : Option Refusal → (ℕ → Bool) → ℕ → List ℕ
+shown_after None f k = bitmap f k
+shown_after (Some r) f k = replicate k 0
+
 -- what a refusal leaves of a buffer: 1 to 3 all as it was, 4 to 7 no marks
 abbrev pub left_by : Refusal → ℕ → List ℕ → List ℕ
 left_by Length k old = old

@@ -3,7 +3,8 @@ ghost use Rattle.std.specs.Prelude.{◌≡◌, IfSome};
 ghost use Rattle.x86.specs.Laws.{Inside};
 ghost use Rattle.gate.specs.Elements.{taken_at};
 
-use automata::lengths::{direct_length, pair_length, straight_length};
+use automata::lengths::length;
+use automata::patterns::{Directs, Pairs, Straights};
 use x86::code::Code;
 
 #[derive(Clone, Copy)]
@@ -13,19 +14,18 @@ pub enum Kind {
     Direct,
 }
 
+#[tactic(auto, unfolding(crate::specs::Elements::taken_at))]
 /// What is taken at an address and how long it is; none where nothing matches.
 pub fn element_at<C: Code>(code: &C, at: u32) -> Option<(Kind, u32)>
     ensures value { result ≡ taken_at (C.Code.bytes code.now) at }
     ensures inside { IfSome result (λ x. Inside (C.Code.bytes code.now) at x.1) }
 {
-    if let Some(length) = pair_length(code, at) {
+    if let Some(length) = length(&Pairs, code, at) {
         return Some((Kind::Pair, length));
     }
-    if let Some(length) = straight_length(code, at) {
+    if let Some(length) = length(&Straights, code, at) {
         return Some((Kind::Straight, length));
     }
-    match direct_length(code, at) {
-        Some(length) => Some((Kind::Direct, length)),
-        None => None,
-    }
+    let length = length(&Directs, code, at)?;
+    Some((Kind::Direct, length))
 }

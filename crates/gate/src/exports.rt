@@ -1,8 +1,6 @@
 //! The verdict in numbers, for callers in C: the crate `gate_c` exports it.
 ghost use Rattle.std.specs.Prelude.{◌≡◌, length};
-ghost use Rattle.std.specs.Option.{unwrap_or};
-ghost use Rattle.gate.specs.Exports.{number_in, address_in};
-ghost use Rattle.gate.specs.Refusals.{number_of, address_of};
+ghost use Rattle.gate.specs.Exports.{number_in, address_in, in_numbers};
 ghost use Rattle.gate.specs.Verdicts.{starts_after, targets_after, verdict_of};
 
 use crate::entries::EntryRow;
@@ -17,12 +15,20 @@ pub struct Verdict {
     pub address: u32,
 }
 
-fn refused(refusal: Refusal) -> Verdict
-    ensures { result ≡ record { number = number_of refusal; address = unwrap_or (address_of refusal) 0 } }
-{
-    Verdict {
-        number: u32::from(refusal.number()),
-        address: refusal.address().unwrap_or(0),
+impl From<Result<(), Refusal>> for Verdict {
+    ghost from_gives = { λ v r. r ≡ in_numbers v };
+
+    fn from(verdict: Result<(), Refusal>) -> Verdict {
+        match verdict {
+            Ok(()) => Verdict {
+                number: 0,
+                address: 0,
+            },
+            Err(refusal) => Verdict {
+                number: u32::from(refusal.number()),
+                address: refusal.address().unwrap_or(0),
+            },
+        }
     }
 }
 
@@ -39,11 +45,5 @@ pub fn gate_judge(
     ensures starts { starts.new ≡ starts_after image.now (record { base = base; count = count }) starts.old targets.old }
     ensures targets { targets.new ≡ targets_after image.now (record { base = base; count = count }) starts.old targets.old }
 {
-    match judge(&image, EntryRow { base, count }, starts, targets) {
-        Ok(()) => Verdict {
-            number: 0,
-            address: 0,
-        },
-        Err(refusal) => refused(refusal),
-    }
+    Verdict::from(judge(&image, EntryRow { base, count }, starts, targets))
 }

@@ -5,9 +5,11 @@
 pub mod elements;
 pub mod entries;
 pub mod exports;
+pub mod images;
 pub mod laws;
 mod marks;
 pub mod passes;
 pub mod readers;
 pub mod refusals;
 pub mod verdicts;
+mod walks;

@@ -1,19 +1,9 @@
 //! Marks buffers: bit i % 8 of byte i / 8 is the mark of address i.
 ghost use Rattle.std.specs.Prelude.{◌≡◌, ◌*◌, ◌/◌, ◌<◌, ◌≤◌, length};
 ghost use Rattle.gate.specs.Bitmaps.{marked, bit_at};
-ghost use Rattle.gate.specs.Verdicts.{answer, misplaced, unmarked};
+ghost use Rattle.gate.specs.Verdicts.{answer, misplaced};
 
 use crate::refusals::Refusal;
-
-/// Takes the marks of the first `count` bytes away.
-pub(crate) fn clear(buffer: &mut [u8], count: usize)
-    requires { count ≤ length buffer.old }
-    ensures { buffer.new ≡ unmarked count buffer.old }
-{
-    for i in 0..count {
-        buffer[i] = 0;
-    }
-}
 
 /// Marks an address.
 pub(crate) fn mark(buffer: &mut [u8], address: u32)
@@ -23,13 +13,13 @@ pub(crate) fn mark(buffer: &mut [u8], address: u32)
     buffer[address as usize / 8] |= 1u8 << (address % 8);
 }
 
-/// The lowest address of the first `count` bytes that has to be a start and is none.
-pub(crate) fn compare(starts: &[u8], targets: &[u8], count: usize) -> Result<(), Refusal>
-    requires { (count ≤ length starts.now) × ((count ≤ length targets.now) × (count ≤ 8192)) }
-    ensures { result ≡ answer (misplaced (bit_at starts.now) (bit_at targets.now) (8 * count)) }
+/// The lowest address that has to be a start and is none.
+pub(crate) fn compare(starts: &[u8], targets: &[u8]) -> Result<(), Refusal>
+    requires same { length starts.now ≡ length targets.now }
+    requires few { length starts.now ≤ 8192 }
+    ensures { result ≡ answer (misplaced (bit_at starts.now) (bit_at targets.now) (8 * length starts.now)) }
 {
-    for i in 0..count {
-        let start = starts[i];
+    for (i, start) in starts.iter().enumerate() {
         if i % 4 == 0 && start % 2 == 0 {
             return Err(Refusal::Unaligned(8 * i as u32));
         }

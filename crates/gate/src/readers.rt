@@ -1,11 +1,10 @@
 //! The elements of an image, one after another.
-ghost use Rattle.std.specs.Prelude.{◌≡◌};
-ghost use Rattle.gate.specs.Reading.{Opens, Reads};
+ghost use Rattle.std.specs.Prelude.{◌≡◌, true, length};
+ghost use Rattle.gate.specs.Verdicts.{fits_length};
 
 use crate::elements::{Kind, element_at};
+use crate::images::length_fits;
 use crate::refusals::Refusal;
-use crate::verdicts::length_fits;
-use x86::code::Code;
 
 /// What is taken at an address. The bytes are a part of the image.
 #[derive(Clone, Copy)]
@@ -20,9 +19,12 @@ pub struct Element<'a> {
 pub struct Reader<'a> {
     image: &'a [u8],
     at: u32,
+    ghost fit: { fits_length (length image.now) ≡ true },
 }
 
 impl<'a> Reader<'a> {
+    ghost use Rattle.gate.specs.Reading.{Opens};
+
     /// A reader at the start of an image whose length the gate takes.
     pub fn new(image: &'a [u8]) -> Result<Reader<'a>, Refusal>
         ensures { Opens image.now result }
@@ -33,16 +35,20 @@ impl<'a> Reader<'a> {
             Err(Refusal::Length)
         }
     }
+}
+
+impl<'a> Iterator for Reader<'a> {
+    ghost use Rattle.gate.specs.Reading.{Reads};
+
+    type Item = Result<Element<'a>, Refusal>;
+
+    ghost next_gives = { λ s r t. (t.image.now ≡ s.image.now) × Reads s.image.now s.at r t.at };
 
     /// The element at the place, and the place moves past it. Where nothing matches the place stays.
-    pub fn next(&mut self) -> Option<Result<Element<'a>, Refusal>>
-        ensures image { self.new.image.now ≡ self.old.image.now }
-        ensures reads { Reads self.old.image.now self.old.at result self.new.at }
-    {
+    fn next(&mut self) -> Option<Result<Element<'a>, Refusal>> {
         let image = self.image;
         let at = self.at;
-        // The length was checked by `new`. It is tested again since no type here says so, and a place has to fit.
-        if !length_fits(image.len()) || image.len() <= at as usize {
+        if image.len() <= at as usize {
             return None;
         }
         let Some((kind, length)) = element_at(&image, at) else {

@@ -45,10 +45,10 @@ impl Refusal {
     {
         match self {
             Refusal::Length | Refusal::Marks | Refusal::Row => None,
-            Refusal::NoMatch(at) => Some(at),
-            Refusal::FarTarget(at) => Some(at),
-            Refusal::Unaligned(at) => Some(at),
-            Refusal::MidTarget(at) => Some(at),
+            Refusal::NoMatch(at)
+            | Refusal::FarTarget(at)
+            | Refusal::Unaligned(at)
+            | Refusal::MidTarget(at) => Some(at),
         }
     }
 }

@@ -1,82 +1,35 @@
 //! The verdict: which images pass, and what stands in the marks buffers after it.
-ghost use Rattle.std.specs.Prelude.{◌≡◌, ◌*◌, ◌/◌, ◌≤◌, true, length, drop, is_ok};
-ghost use Rattle.gate.specs.Walks.{is_start, is_target, stopped};
+ghost use Rattle.std.specs.Prelude.{◌≡◌, ◌/◌, true, length, is_ok};
+ghost use Rattle.gate.specs.Walks.{is_start, is_target};
 ghost use Rattle.x86.specs.Octets.{Octets};
 ghost use Rattle.gate.specs.Exact.{ExactlyPolicy};
-ghost use Rattle.gate.specs.Verdicts.{answer, found, marks_of, fits_length, starts_after, targets_after, unmarked, verdict_of};
+ghost use Rattle.gate.specs.Verdicts.{answer, found, shown_after, fits_length, starts_after, targets_after, verdict_of};
 
 use crate::entries::EntryRow;
-use crate::marks::{clear, compare, mark};
+use crate::images::{Image, length_fits};
 use crate::refusals::Refusal;
-use automata::lengths::{direct_length, direct_target, pair_length, straight_length};
+use crate::walks::examine;
 use x86::code::{Code, octets};
 
-/// Whether an image may have `n` bytes.
-pub fn length_fits(n: usize) -> bool
-    ensures { result ≡ fits_length n }
-{
-    n != 0 && n <= 65536 && n % 32 == 0
-}
-
-/// Walks over an image of `n` bytes and marks its starts and its direct targets below `n`.
-fn walk<C: Code>(
-    code: &C,
+// Over buffers of the size that the image needs: a refusal leaves no marks.
+fn settle<C: Code>(
+    image: &Image<'_, C>,
     row: EntryRow,
-    n: u32,
     starts: &mut [u8],
     targets: &mut [u8],
 ) -> Result<(), Refusal>
-    requires size { (n ≡ length (C.Code.bytes code.now)) × (n ≡ 8 * (n / 8)) }
-    requires room { (n / 8 ≤ length starts.old) × (n / 8 ≤ length targets.old) }
-    requires clear { (starts.old ≡ unmarked (n / 8) starts.old) × (targets.old ≡ unmarked (n / 8) targets.old) }
-    ensures value { result ≡ answer (stopped (C.Code.bytes code.now) row) }
-    ensures starts { is_ok result ≡ true → starts.new ≡ marks_of (is_start (C.Code.bytes code.now)) (n / 8) starts.old }
-    ensures targets { is_ok result ≡ true → targets.new ≡ marks_of (is_target (C.Code.bytes code.now)) (n / 8) targets.old }
-    ensures behind { (drop (n / 8) starts.new ≡ drop (n / 8) starts.old) × (drop (n / 8) targets.new ≡ drop (n / 8) targets.old) }
+    requires starts { length starts.old ≡ image.now.size / 8 }
+    requires targets { length targets.old ≡ image.now.size / 8 }
+    ensures value { result ≡ answer (found (C.Code.bytes image.now.code.now) row) }
+    ensures starts { starts.new ≡ shown_after (found (C.Code.bytes image.now.code.now) row) (is_start (C.Code.bytes image.now.code.now)) (image.now.size / 8) }
+    ensures targets { targets.new ≡ shown_after (found (C.Code.bytes image.now.code.now) row) (is_target (C.Code.bytes image.now.code.now)) (image.now.size / 8) }
 {
-    let mut at: u32 = 0;
-    while at < n {
-        mark(starts, at);
-        if let Some(length) = pair_length(code, at) {
-            at += length;
-        } else if let Some(length) = straight_length(code, at) {
-            at += length;
-        } else if let Some(length) = direct_length(code, at) {
-            if let Some(target) = direct_target(code, at) {
-                if target < n {
-                    mark(targets, target);
-                } else if !row.holds(target) {
-                    return Err(Refusal::FarTarget(at));
-                }
-            }
-            at += length;
-        } else {
-            return Err(Refusal::NoMatch(at));
-        }
+    let verdict = examine(image, row, starts, targets);
+    if verdict.is_err() {
+        starts.fill(0);
+        targets.fill(0);
     }
-    Ok(())
-}
-
-/// Walks over an image of `n` bytes and compares the marks, from cleared buffers.
-fn examine<C: Code>(
-    code: &C,
-    row: EntryRow,
-    n: u32,
-    starts: &mut [u8],
-    targets: &mut [u8],
-) -> Result<(), Refusal>
-    requires size { (n ≡ length (C.Code.bytes code.now)) × ((n ≡ 8 * (n / 8)) × (n ≤ 65536)) }
-    requires room { (n / 8 ≤ length starts.old) × (n / 8 ≤ length targets.old) }
-    ensures value { result ≡ answer (found (C.Code.bytes code.now) row) }
-    ensures starts { is_ok result ≡ true → starts.new ≡ marks_of (is_start (C.Code.bytes code.now)) (n / 8) starts.old }
-    ensures targets { is_ok result ≡ true → targets.new ≡ marks_of (is_target (C.Code.bytes code.now)) (n / 8) targets.old }
-    ensures behind { (drop (n / 8) starts.new ≡ drop (n / 8) starts.old) × (drop (n / 8) targets.new ≡ drop (n / 8) targets.old) }
-{
-    let bytes = n as usize / 8;
-    clear(starts, bytes);
-    clear(targets, bytes);
-    walk(code, row, n, starts, targets)?;
-    compare(starts, targets, bytes)
+    verdict
 }
 
 // The checks in their order.
@@ -90,24 +43,15 @@ fn checked<C: Code>(
     ensures starts { starts.new ≡ starts_after (C.Code.bytes code.now) row starts.old targets.old }
     ensures targets { targets.new ≡ targets_after (C.Code.bytes code.now) row starts.old targets.old }
 {
-    let length = code.len();
-    if !length_fits(length) {
-        return Err(Refusal::Length);
-    }
-    let count = length / 8;
+    let image = Image::of(code)?;
+    let count = image.size as usize / 8;
     if starts.len() < count || targets.len() < count {
         return Err(Refusal::Marks);
     }
-    let n = length as u32;
-    if !row.fits(n) {
+    if !row.fits(image.size) {
         return Err(Refusal::Row);
     }
-    let verdict = examine(code, row, n, starts, targets);
-    if verdict.is_err() {
-        clear(starts, count);
-        clear(targets, count);
-    }
-    verdict
+    settle(&image, row, &mut starts[..count], &mut targets[..count])
 }
 
 // The policy speaks of bytes; that the source has some is known by reading them. Only an image of a fit length is read for it,

@@ -1,34 +1,22 @@
-use Rattle.std.proofs.Common.{sym, ap, ◌∙◌}
-use Rattle.gate.specs.Verdicts.{answer}
-use Rattle.gate.proofs.Judging.{size_of, verdict_is, left_refused, left_passed}
+use Rattle.std.proofs.Common.{length, sym, ap, ◌∙◌, arith}
+use Rattle.gate.specs.Walks.{is_start, is_target}
+use Rattle.gate.proofs.Judging.{verdict_is, shown_is}
 use Rattle.gate.proofs.verdicts.checked.Goals as goal
 
-pub examine-verdict-requires : goal.examine-verdict-requires
-examine-verdict-requires g c =
-    let s = size_of _ c.if-not-length_fits.ensures in
-    record {
-      size = (c.len-length.ensures, (s.whole, s.most));
-      room = (c.if-starts-count.false, c.if-targets-count.false);
-    }
+pub returns-clause-starts : goal.returns-clause-starts
+returns-clause-starts g c =
+    let i = c.in_ok-image.image in
+    let bytes = g.C.Code.bytes c.args.code.now in
+    let b = c.in_ok-image.ensures.1 in
+    let s = i.whole ∙ ap length b in
+    let v = verdict_is bytes c.args.row i.size (length c.args.starts.now) (length c.args.targets.now) s (sym i.fit) (omega (arith, c.len.ensures, c.if-len-count.false)) (omega (arith, c.len-else-len-count.ensures, c.if-len-count-2.false)) c.if-not-fits.ensures in
+    shown_is bytes c.args.row (is_start bytes) i.size _ _ _ _ s v (rw b at c.settle.ensures.starts)
 
-pub returns-then-is_err : goal.returns-then-is_err
-returns-then-is_err g c =
-    let e = c.examine-verdict.ensures in
-    let err = c.if-is_err.ensures.value in
-    let d = verdict_is (g.C.Code.bytes c.args.code.now) c.args.row _ _ _ c.len-length.ensures c.if-not-length_fits.ensures c.if-starts-count.false c.if-targets-count.false c.if-not-fits.ensures in
-    record {
-      value = e.value ∙ sym (ap answer d);
-      starts = left_refused _ _ _ _ _ _ _ _ _ _ c.len-length.ensures d e.value err e.behind.0 c.clear.ensures;
-      targets = left_refused _ _ _ _ _ _ _ _ _ _ c.len-length.ensures d e.value err e.behind.1 c.clear-then-is_err.ensures;
-    }
-
-pub returns-else-is_err : goal.returns-else-is_err
-returns-else-is_err g c =
-    let e = c.examine-verdict.ensures in
-    let ok = c.if-is_err.ensures.value in
-    let d = verdict_is (g.C.Code.bytes c.args.code.now) c.args.row _ _ _ c.len-length.ensures c.if-not-length_fits.ensures c.if-starts-count.false c.if-targets-count.false c.if-not-fits.ensures in
-    record {
-      value = e.value ∙ sym (ap answer d);
-      starts = left_passed _ _ _ _ _ _ _ _ _ c.len-length.ensures d e.value ok e.starts;
-      targets = left_passed _ _ _ _ _ _ _ _ _ c.len-length.ensures d e.value ok e.targets;
-    }
+pub returns-clause-targets : goal.returns-clause-targets
+returns-clause-targets g c =
+    let i = c.in_ok-image.image in
+    let bytes = g.C.Code.bytes c.args.code.now in
+    let b = c.in_ok-image.ensures.1 in
+    let s = i.whole ∙ ap length b in
+    let v = verdict_is bytes c.args.row i.size (length c.args.starts.now) (length c.args.targets.now) s (sym i.fit) (omega (arith, c.len.ensures, c.if-len-count.false)) (omega (arith, c.len-else-len-count.ensures, c.if-len-count-2.false)) c.if-not-fits.ensures in
+    shown_is bytes c.args.row (is_target bytes) i.size _ _ _ _ s v (rw b at c.settle.ensures.targets)
