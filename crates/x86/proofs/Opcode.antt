@@ -1,5 +1,5 @@
 -- Which way a reading takes behind its first byte.
-use Rattle.std.proofs.Common.{◌≡◌, ℕ, ◌+◌, ◌<◌, ◌≤◌, Bool, true, false, cond, eqb, List, get_or, IfSome, Some, None, Option, sym, refl, subst, arith, ne_eqb}
+use Rattle.std.proofs.Common.{◌≡◌, ℕ, ◌+◌, Bool, true, false, cond, eqb, List, get_or, Some, Option, sym, refl, subst, arith, ne_eqb}
 use Rattle.x86.specs.declared.instructions.Instruction.{Instruction}
 use Rattle.x86.specs.declared.forms.Form.{Form}
 use Rattle.x86.specs.Rows.{look_up, one_byte_rows, two_byte_rows}
@@ -16,9 +16,3 @@ pub one_byte : (bs : List ℕ) (p b : ℕ) (f : Form) (n : ℕ) → b ≡ get_or
 one_byte bs p b f n e k h =
     sym (subst (λ (b : ℕ). cond (eqb b 15) (row_at bs (p + 2) (look_up two_byte_rows (get_or bs (p + 1) 0))) (row_at bs (p + 1) (look_up one_byte_rows b)) ≡ form_at bs (p + 1) f n) e
     (otherwise bs p (eqb b 15) (row_at bs (p + 2) (look_up two_byte_rows (get_or bs (p + 1) 0))) (look_up one_byte_rows b) f n (ne_eqb b 15 k) h))
-
--- what ends from q on, within n, ends past an earlier p, within so much more
-pub ends_past : (o : Option (Instruction × ℕ)) (p q n m : ℕ) → p < q → q + n ≤ p + m →
-    IfSome o (λ x. (q ≤ x.1) × (x.1 ≤ q + n)) → IfSome o (λ x. (p < x.1) × (x.1 ≤ p + m))
-ends_past None p q n m h k e = tt
-ends_past (Some x) p q n m h k e = (omega arith, omega arith)

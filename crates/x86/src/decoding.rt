@@ -1,5 +1,7 @@
 //! The decoder: from the bytes at an address to the instruction that they are.
-ghost use Rattle.std.specs.Prelude.{◌≡◌, ◌+◌, ◌*◌, ◌^◌, ◌<◌, ◌≤◌, IfSome};
+ghost use Rattle.std.specs.Prelude.{◌≡◌, ◌+◌, ◌*◌, ◌^◌, ◌<◌, ◌≤◌, IfSome, slice_index};
+ghost use Rattle.std.specs.Option.{option_map};
+ghost use Rattle.x86.specs.Numbers.{width_bytes};
 ghost use Rattle.x86.specs.Laws.{Inside, EveryEncoding, OnlyEncodings};
 ghost use Rattle.x86.specs.Decoded.{long_at, value_at, displacement_width_of, displacement_at, base_of, index_of, address_at, modrm_at, form_at, row_at, read_at, decoded_at};
 
@@ -9,27 +11,130 @@ use crate::instructions::{Decoded, Instruction};
 use crate::operands::{Address, Index, Modrm, RegisterOrMemory};
 use crate::registers::{Register, Scale, Width};
 
-// Every place is below 2^33, so that no sum of places overflows.
-
-fn long<C: Code>(code: &C, at: usize) -> u32
-    requires { at < 2 ^ 33 }
-    ensures { result ≡ long_at (C.bytes code.now) at }
-{
-    u32::from_le_bytes([
-        code.byte(at),
-        code.byte(at + 1),
-        code.byte(at + 2),
-        code.byte(at + 3),
-    ])
+/// A place among bytes, which goes on past what is read.
+#[derive(Drop)]
+struct Cursor<'a, C> {
+    code: &'a C,
+    at: usize,
 }
 
-fn value<C: Code>(code: &C, at: usize, width: Width) -> u32
-    requires { at < 2 ^ 33 }
-    ensures { result ≡ value_at width (C.bytes code.now) at }
-{
-    match width {
-        Width::Byte => u32::from(code.byte(at)),
-        Width::Long => long(code, at),
+// No sum of places overflows: each reading may begin at twice the places of those that it is a part of. A bound in the type
+// would not last, since each byte moves the place.
+impl<C: Code> Cursor<'_, C> {
+    fn byte(&mut self) -> u8
+        requires { self.old.at < 2 ^ 36 }
+        ensures value { result ≡ slice_index (C.bytes self.old.code.now) self.old.at }
+        ensures next { self.new ≡ record self.old { at = self.old.at + 1 } }
+    {
+        let byte = self.code.byte(self.at);
+        self.at += 1;
+        byte
+    }
+
+    fn long(&mut self) -> u32
+        requires { self.old.at < 2 ^ 35 }
+        ensures value { result ≡ long_at (C.bytes self.old.code.now) self.old.at }
+        ensures next { self.new ≡ record self.old { at = self.old.at + 4 } }
+    {
+        u32::from_le_bytes([self.byte(), self.byte(), self.byte(), self.byte()])
+    }
+
+    fn value(&mut self, width: Width) -> u32
+        requires { self.old.at < 2 ^ 35 }
+        ensures value { result ≡ value_at width (C.bytes self.old.code.now) self.old.at }
+        ensures next { self.new ≡ record self.old { at = self.old.at + width_bytes width } }
+    {
+        match width {
+            Width::Byte => u32::from(self.byte()),
+            Width::Long => self.long(),
+        }
+    }
+
+    fn displacement(&mut self, width: Option<Width>) -> Option<u32>
+        requires { self.old.at < 2 ^ 35 }
+        ensures value { result ≡ (displacement_at width (C.bytes self.old.code.now) self.old.at).0 }
+        ensures next { self.new ≡ record self.old { at = (displacement_at width (C.bytes self.old.code.now) self.old.at).1 } }
+        ensures bound { self.new.at ≤ self.old.at + 4 }
+    {
+        let width = width?;
+        Some(width.extend(self.value(width)))
+    }
+
+    fn address(&mut self, mode: u8, rm: u8) -> Address
+        requires { self.old.at < 2 ^ 34 }
+        ensures value { result ≡ (address_at (C.bytes self.old.code.now) self.old.at mode rm).0 }
+        ensures next { self.new ≡ record self.old { at = (address_at (C.bytes self.old.code.now) self.old.at mode rm).1 } }
+        ensures bound { self.new.at ≤ self.old.at + 5 }
+    {
+        if rm != 4 {
+            return Address {
+                base: base(mode, rm),
+                index: None,
+                displacement: self.displacement(displacement_width(mode, rm)),
+            };
+        }
+        let sib = self.byte();
+        let number = sib % 8;
+        Address {
+            base: base(mode, number),
+            index: Some(index(sib / 64, sib / 8 % 8)),
+            displacement: self.displacement(displacement_width(mode, number)),
+        }
+    }
+
+    fn modrm(&mut self) -> Modrm
+        requires { self.old.at < 2 ^ 33 }
+        ensures value { result ≡ modrm_at (C.bytes self.old.code.now) self.old.at }
+        ensures next { self.new ≡ record self.old { at = result.end } }
+        ensures bound { result.end ≤ self.old.at + 6 }
+    {
+        let byte = self.byte();
+        let rm = byte % 8;
+        let operand = if byte >= 0xc0 {
+            RegisterOrMemory::Register(rm)
+        } else {
+            RegisterOrMemory::Memory(self.address(byte / 64, rm))
+        };
+        Modrm {
+            reg: byte / 8 % 8,
+            operand,
+            end: self.at,
+        }
+    }
+
+    // The instruction of a form, from the place after its opcode on.
+    fn formed(&mut self, form: Form, number: u8) -> Option<Instruction>
+        requires { self.old.at < 2 ^ 33 }
+        ensures value { option_map (λ i. (i, self.new.at)) result ≡ form_at (C.bytes self.old.code.now) self.old.at form number }
+        ensures bound { (self.old.at ≤ self.new.at) × (self.new.at ≤ self.old.at + 10) }
+    {
+        match form {
+            Form::Alone(form) => Some(form.instruction(number)),
+            Form::WithImmediate(form) => Some(form.instruction(number, self.value(form.width()))),
+            Form::WithOperand(form) => {
+                let modrm = self.modrm();
+                form.instruction(number, modrm.reg, modrm.operand)
+            }
+            Form::WithBoth(form) => {
+                let modrm = self.modrm();
+                let value = self.value(form.width());
+                form.instruction(modrm.reg, modrm.operand, value)
+            }
+        }
+    }
+
+    fn instruction(&mut self) -> Option<Instruction>
+        requires { self.old.at < 2 ^ 32 }
+        ensures value { option_map (λ i. (i, self.new.at)) result ≡ read_at (C.bytes self.old.code.now) self.old.at }
+        ensures bound { (self.old.at < self.new.at) × (self.new.at ≤ self.old.at + 12) }
+    {
+        let opcode = self.byte();
+        if opcode == 0x0f {
+            let (form, number) = Form::behind_0f(self.byte())?;
+            return self.formed(form, number);
+        }
+        let (form, number) = Form::of(opcode)?;
+        self.formed(form, number)
     }
 }
 
@@ -37,7 +142,11 @@ fn value<C: Code>(code: &C, at: usize, width: Width) -> u32
 pub fn number_at<C: Code>(code: &C, at: u32, offset: u32, width: Width) -> u32
     ensures { result ≡ value_at width (C.bytes code.now) (at + offset) }
 {
-    value(code, at as usize + offset as usize, width)
+    let mut cursor = Cursor {
+        code,
+        at: at as usize + offset as usize,
+    };
+    cursor.value(width)
 }
 
 // The displacement under `mode`, beside a base or an rm with this number.
@@ -49,20 +158,6 @@ fn displacement_width(mode: u8, number: u8) -> Option<Width>
         2 => Some(Width::Long),
         _ if number == 5 => Some(Width::Long),
         _ => None,
-    }
-}
-
-fn displacement<C: Code>(code: &C, at: usize, width: Option<Width>) -> (Option<u32>, usize)
-    requires { at < 2 ^ 33 }
-    ensures value { result ≡ displacement_at width (C.bytes code.now) at }
-    ensures bound { (at ≤ result.1) × (result.1 ≤ at + 4) }
-{
-    match width {
-        None => (None, at),
-        Some(width) => (
-            Some(width.extend(value(code, at, width))),
-            at + width.bytes(),
-        ),
     }
 }
 
@@ -85,118 +180,18 @@ fn index(scale: u8, number: u8) -> Index
     }
 }
 
-fn address<C: Code>(code: &C, at: usize, mode: u8, rm: u8) -> (Address, usize)
-    requires { at + 1 < 2 ^ 33 }
-    ensures value { result ≡ address_at (C.bytes code.now) at mode rm }
-    ensures bound { (at ≤ result.1) × (result.1 ≤ at + 5) }
-{
-    if rm == 4 {
-        let sib = code.byte(at);
-        let number = sib % 8;
-        let (displacement, end) = displacement(code, at + 1, displacement_width(mode, number));
-        (
-            Address {
-                base: base(mode, number),
-                index: Some(index(sib / 64, sib / 8 % 8)),
-                displacement,
-            },
-            end,
-        )
-    } else {
-        let (displacement, end) = displacement(code, at, displacement_width(mode, rm));
-        (
-            Address {
-                base: base(mode, rm),
-                index: None,
-                displacement,
-            },
-            end,
-        )
-    }
-}
-
-fn modrm<C: Code>(code: &C, at: usize) -> Modrm
-    requires { at + 2 < 2 ^ 33 }
-    ensures value { result ≡ modrm_at (C.bytes code.now) at }
-    ensures bound { (at ≤ result.end) × (result.end ≤ at + 6) }
-{
-    let byte = code.byte(at);
-    let reg = byte / 8 % 8;
-    let rm = byte % 8;
-    if byte >= 0xc0 {
-        return Modrm {
-            reg,
-            operand: RegisterOrMemory::Register(rm),
-            end: at + 1,
-        };
-    }
-    let (address, end) = address(code, at + 1, byte / 64, rm);
-    Modrm {
-        reg,
-        operand: RegisterOrMemory::Memory(address),
-        end,
-    }
-}
-
-// The instruction of a form, from the place after its opcode on, and the place after it.
-fn formed<C: Code>(code: &C, at: usize, form: Form, number: u8) -> Option<(Instruction, usize)>
-    requires { at < 2 ^ 32 + 16 }
-    ensures value { result ≡ form_at (C.bytes code.now) at form number }
-    ensures bound { IfSome result (λ x. (at ≤ x.1) × (x.1 ≤ at + 10)) }
-{
-    match form {
-        Form::Alone(form) => Some((form.instruction(number), at)),
-        Form::WithImmediate(form) => {
-            let width = form.width();
-            Some((
-                form.instruction(number, value(code, at, width)),
-                at + width.bytes(),
-            ))
-        }
-        Form::WithOperand(form) => {
-            let modrm = modrm(code, at);
-            Some((
-                form.instruction(number, modrm.reg, modrm.operand)?,
-                modrm.end,
-            ))
-        }
-        Form::WithBoth(form) => {
-            let modrm = modrm(code, at);
-            let width = form.width();
-            let value = value(code, modrm.end, width);
-            Some((
-                form.instruction(modrm.reg, modrm.operand, value)?,
-                modrm.end + width.bytes(),
-            ))
-        }
-    }
-}
-
-fn read<C: Code>(code: &C, at: usize) -> Option<(Instruction, usize)>
-    requires { at < 2 ^ 32 }
-    ensures value { result ≡ read_at (C.bytes code.now) at }
-    ensures bound { IfSome result (λ x. (at < x.1) × (x.1 ≤ at + 12)) }
-{
-    let opcode = code.byte(at);
-    if opcode == 0x0f {
-        let (form, number) = Form::behind_0f(code.byte(at + 1))?;
-        return formed(code, at + 2, form, number);
-    }
-    let (form, number) = Form::of(opcode)?;
-    formed(code, at + 1, form, number)
-}
-
 // The instruction at a place, if it ends inside the bytes.
 fn bounded<C: Code>(code: &C, at: u32) -> Option<Decoded>
     ensures value { result ≡ decoded_at (C.bytes code.now) at }
     ensures inside { IfSome result (λ d. Inside (C.bytes code.now) at d.length) }
 {
     let start = at as usize;
-    let (instruction, end) = read(code, start)?;
-    if end > code.len() {
+    let mut cursor = Cursor { code, at: start };
+    let instruction = cursor.instruction()?;
+    if cursor.at > code.len() {
         return None;
     }
-    let length = (end - start) as u32;
+    let length = (cursor.at - start) as u32;
     Some(Decoded {
         instruction,
         length,
