@@ -9,4 +9,3 @@ pub mod Entered
 pub mod Obeys
 pub mod Admits
 pub mod Exactly
-pub mod Numbered

@@ -4,7 +4,6 @@
 
 pub mod elements;
 pub mod entries;
-pub mod exports;
 pub mod images;
 pub mod laws;
 mod marks;
