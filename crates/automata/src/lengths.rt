@@ -10,8 +10,8 @@ use x86::registers::Width;
 
 /// The length of a pattern at an address.
 pub fn length<A: Automaton, C: Code>(pattern: &A, code: &C, at: u32) -> Option<u32>
-    ensures value { result ≡ A.Automaton.grammar pattern.now (C.Code.bytes code.now) at }
-    ensures inside { IfSome result (λ n. Inside (C.Code.bytes code.now) at n) }
+    ensures value { result ≡ A.grammar pattern.now (C.bytes code.now) at }
+    ensures inside { IfSome result (λ n. Inside (C.bytes code.now) at n) }
 {
     pattern.decides();
     let length = walk(pattern, code, at as usize)?;
@@ -20,7 +20,7 @@ pub fn length<A: Automaton, C: Code>(pattern: &A, code: &C, at: u32) -> Option<u
 
 // The displacement of a direct form stands in its last bytes: one in a form of two bytes, four in a longer one.
 fn displacement<C: Code>(code: &C, at: u32, length: u32) -> u32
-    ensures { result ≡ displacement_in (C.Code.bytes code.now) at length }
+    ensures { result ≡ displacement_in (C.bytes code.now) at length }
 {
     if length == 2 {
         Width::Byte.extend(number_at(code, at, 1, Width::Byte))
@@ -30,9 +30,11 @@ fn displacement<C: Code>(code: &C, at: u32, length: u32) -> u32
 }
 
 /// Where a direct form of this length at an address goes to, modulo 2^32.
+// In line it would take registers from the walk, which meets few direct forms.
+#[inline(never)]
 pub fn target<C: Code>(code: &C, at: u32, length: u32) -> u32
-    ensures value { result ≡ target_by_length (C.Code.bytes code.now) at length }
-    ensures target { direct_length_of (C.Code.bytes code.now) at ≡ Some length → direct_target_of (C.Code.bytes code.now) at ≡ Some result }
+    ensures value { result ≡ target_by_length (C.bytes code.now) at length }
+    ensures target { direct_length_of (C.bytes code.now) at ≡ Some length → direct_target_of (C.bytes code.now) at ≡ Some result }
 {
     let displacement = displacement(code, at, length);
     at.wrapping_add(length).wrapping_add(displacement)

@@ -32,7 +32,7 @@ const START: usize = 2;
 
 /// How many bytes from `at` on the table accepts.
 pub(crate) fn walk<A: Automaton, C: Code>(automaton: &A, code: &C, at: usize) -> Option<usize>
-    ensures { result ≡ run (A.Automaton.next automaton.now) 2 (drop at (C.Code.bytes code.now)) }
+    ensures { result ≡ run (A.next automaton.now) 2 (drop at (C.bytes code.now)) }
 {
     let mut state = START;
     for i in at..code.len() {

@@ -1,6 +1,6 @@
 -- What is taken at an address, from the three lengths.
-use Rattle.std.proofs.Common.{◌≡◌, ℕ, List, Some, None, Option, sym, refl, ap, ◌∙◌}
-use Rattle.std.specs.Option.{option_map, option_or}
+use Rattle.std.proofs.Common.{◌≡◌, ℕ, List, Some, None, Option, sym, refl, ap}
+use Rattle.std.specs.Option.{option_or}
 use Rattle.automata.specs.Lengths.{pair_length_of, straight_length_of, direct_length_of, direct_target_of}
 use Rattle.gate.specs.declared.elements.Kind.{Kind}
 use Rattle.gate.specs.declared.elements.Kind.TheVariants.{Pair, Straight, Direct}
@@ -51,25 +51,3 @@ target_of_straight bs p n e = aim (taken_at bs p) (direct_target_of bs p) (Strai
 pub target_of_direct : (bs : List ℕ) (p n : ℕ) → taken_at bs p ≡ Some (Direct, n) → target_at bs p ≡ direct_target_of bs p
 unfolding target_at
 target_of_direct bs p n e = aim (taken_at bs p) (direct_target_of bs p) (Direct, n) e
-
-direct_by : (a b c : Option ℕ) (n : ℕ) → choice a b c ≡ Some (Direct, n) → c ≡ Some n
-direct_by (Some x) b c n e = let k : ◌≡◌ {A = Option Kind} (Some Pair) (Some Direct) = ap (option_map (λ x. x.0)) e in cc
-direct_by None (Some x) c n e = let k : ◌≡◌ {A = Option Kind} (Some Straight) (Some Direct) = ap (option_map (λ x. x.0)) e in cc
-direct_by None None (Some x) n e = ap (option_map (λ x. x.1)) e
-direct_by None None None n e = cc
-
-taken_directly : (bs : List ℕ) (p n : ℕ) → taken_at bs p ≡ Some (Direct, n) → direct_length_of bs p ≡ Some n
-unfolding taken_at
-taken_directly bs p n e = direct_by (pair_length_of bs p) (straight_length_of bs p) (direct_length_of bs p) n e
-
--- a direct form that is taken goes where its length says
-pub goes_there : (bs : List ℕ) (p n t : ℕ) (k : Kind) → taken_at bs p ≡ Some (k, n) → k ≡ Direct → (direct_length_of bs p ≡ Some n → direct_target_of bs p ≡ Some t) → target_at bs p ≡ Some t
-goes_there bs p n t k e is aims =
-    let d : taken_at bs p ≡ Some (Direct, n) = e ∙ ap (λ k. Some (k, n)) is in
-    target_of_direct bs p n d ∙ aims (taken_directly bs p n d)
-
--- nothing else goes anywhere
-pub goes_nowhere : (bs : List ℕ) (p n : ℕ) (k : Kind) → taken_at bs p ≡ Some (k, n) → (k ≡ Direct → ⊥) → target_at bs p ≡ None
-goes_nowhere bs p n Pair e other = target_of_pair bs p n e
-goes_nowhere bs p n Straight e other = target_of_straight bs p n e
-goes_nowhere bs p n Direct e other = absurd (other refl)

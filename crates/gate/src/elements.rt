@@ -14,11 +14,11 @@ pub enum Kind {
     Direct,
 }
 
-#[tactic(auto, unfolding(crate::specs::Elements::taken_at))]
 /// What is taken at an address and how long it is; none where nothing matches.
+#[tactic(auto, unfolding(crate::specs::Elements::taken_at))]
 pub fn element_at<C: Code>(code: &C, at: u32) -> Option<(Kind, u32)>
-    ensures value { result ≡ taken_at (C.Code.bytes code.now) at }
-    ensures inside { IfSome result (λ x. Inside (C.Code.bytes code.now) at x.1) }
+    ensures value { result ≡ taken_at (C.bytes code.now) at }
+    ensures inside { IfSome result (λ x. Inside (C.bytes code.now) at x.1) }
 {
     if let Some(length) = length(&Pairs, code, at) {
         return Some((Kind::Pair, length));

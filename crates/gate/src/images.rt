@@ -18,13 +18,13 @@ pub fn length_fits(n: usize) -> bool
 pub(crate) struct Image<'a, C: Code> {
     pub code: &'a C,
     pub size: u32,
-    ghost whole: { size ≡ length (C.Code.bytes code.now) },
+    ghost whole: { size ≡ length (C.bytes code.now) },
     ghost fit: { fits_length size ≡ true },
 }
 
 impl<'a, C: Code> Image<'a, C> {
     pub(crate) fn of(code: &'a C) -> Result<Image<'a, C>, Refusal>
-        ensures { Taken (C.Code.bytes code.now) (λ i. C.Code.bytes i.code.now) result }
+        ensures { Taken (C.bytes code.now) (λ i. C.bytes i.code.now) result }
     {
         let size = code.len();
         if !length_fits(size) {

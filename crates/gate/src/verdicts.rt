@@ -20,9 +20,9 @@ fn settle<C: Code>(
 ) -> Result<(), Refusal>
     requires starts { length starts.old ≡ image.now.size / 8 }
     requires targets { length targets.old ≡ image.now.size / 8 }
-    ensures value { result ≡ answer (found (C.Code.bytes image.now.code.now) row) }
-    ensures starts { starts.new ≡ shown_after (found (C.Code.bytes image.now.code.now) row) (is_start (C.Code.bytes image.now.code.now)) (image.now.size / 8) }
-    ensures targets { targets.new ≡ shown_after (found (C.Code.bytes image.now.code.now) row) (is_target (C.Code.bytes image.now.code.now)) (image.now.size / 8) }
+    ensures value { result ≡ answer (found (C.bytes image.now.code.now) row) }
+    ensures starts { starts.new ≡ shown_after (found (C.bytes image.now.code.now) row) (is_start (C.bytes image.now.code.now)) (image.now.size / 8) }
+    ensures targets { targets.new ≡ shown_after (found (C.bytes image.now.code.now) row) (is_target (C.bytes image.now.code.now)) (image.now.size / 8) }
 {
     let verdict = examine(image, row, starts, targets);
     if verdict.is_err() {
@@ -39,9 +39,9 @@ fn checked<C: Code>(
     starts: &mut [u8],
     targets: &mut [u8],
 ) -> Result<(), Refusal>
-    ensures value { result ≡ answer (verdict_of (C.Code.bytes code.now) row (length starts.old) (length targets.old)) }
-    ensures starts { starts.new ≡ starts_after (C.Code.bytes code.now) row starts.old targets.old }
-    ensures targets { targets.new ≡ targets_after (C.Code.bytes code.now) row starts.old targets.old }
+    ensures value { result ≡ answer (verdict_of (C.bytes code.now) row (length starts.old) (length targets.old)) }
+    ensures starts { starts.new ≡ starts_after (C.bytes code.now) row starts.old targets.old }
+    ensures targets { targets.new ≡ targets_after (C.bytes code.now) row starts.old targets.old }
 {
     let image = Image::of(code)?;
     let count = image.size as usize / 8;
@@ -57,7 +57,7 @@ fn checked<C: Code>(
 // The policy speaks of bytes; that the source has some is known by reading them. Only an image of a fit length is read for it,
 // and the reading has no effect.
 fn image_octets<C: Code>(code: &C)
-    ensures { fits_length (length (C.Code.bytes code.now)) ≡ true → Octets (C.Code.bytes code.now) 0 (length (C.Code.bytes code.now)) }
+    ensures { fits_length (length (C.bytes code.now)) ≡ true → Octets (C.bytes code.now) 0 (length (C.bytes code.now)) }
 {
     let length = code.len();
     if length_fits(length) {
@@ -72,10 +72,10 @@ pub fn judge<C: Code>(
     starts: &mut [u8],
     targets: &mut [u8],
 ) -> Result<(), Refusal>
-    ensures value { result ≡ answer (verdict_of (C.Code.bytes code.now) row (length starts.old) (length targets.old)) }
-    ensures starts { starts.new ≡ starts_after (C.Code.bytes code.now) row starts.old targets.old }
-    ensures targets { targets.new ≡ targets_after (C.Code.bytes code.now) row starts.old targets.old }
-    ensures policy { ExactlyPolicy (C.Code.bytes code.now) row (length starts.old) (length targets.old) (is_ok result) }
+    ensures value { result ≡ answer (verdict_of (C.bytes code.now) row (length starts.old) (length targets.old)) }
+    ensures starts { starts.new ≡ starts_after (C.bytes code.now) row starts.old targets.old }
+    ensures targets { targets.new ≡ targets_after (C.bytes code.now) row starts.old targets.old }
+    ensures policy { ExactlyPolicy (C.bytes code.now) row (length starts.old) (length targets.old) (is_ok result) }
 {
     image_octets(code);
     checked(code, row, starts, targets)

@@ -1,10 +1,10 @@
 use Rattle.std.proofs.Common.{◌≡◌, ◌*◌, ◌/◌, ◌<◌, length, replicate, sym, ap, ◌∙◌, arith, rules}
 use Rattle.gate.specs.Verdicts.{answer}
 use Rattle.gate.proofs.Judging.{size_of}
-use Rattle.gate.proofs.Taken.{goes_there, goes_nowhere}
+use Rattle.gate.proofs.Taken.{pair_taken, straight_taken, direct_taken, none_taken, target_of_pair, target_of_straight, target_of_direct}
 use Rattle.gate.proofs.Turns.{walking_starts, walking_plain, walking_near, walking_entry, walking_far, walking_none, walking_ends, walking_same}
 use Rattle.gate.proofs.walks.walk.Goals as goal
-use Rattle.gate.proofs.walks.walk.Goals.{in-Direct+then-target-image, in-Direct+else-target-image+else-not-holds, in_default-kind}
+use Rattle.gate.proofs.walks.walk.Goals.{then-target-image, else-target-image+else-not-holds}
 
 pub loop-at-init : goal.loop-at-init
 loop-at-init g c =
@@ -12,15 +12,35 @@ loop-at-init g c =
     let t : c.fill-2.new.self ≡ replicate (c.args.image.now.size / 8) 0 = search rules in
     walking_starts _ _ _ _ _ s t
 
-pub returns-in_default-clause-value : goal.returns-in_default-clause-value
-returns-in_default-clause-value g c =
-    sym (ap answer (walking_none _ _ _ _ _ _ c.loop-at.invariant (omega (arith, c.args.image.now.whole, c.loop-at-test.true)) (sym c.element_at.ensures.value ∙ c.in_default.is)))
+pub returns-in_default-length-2-clause-value : goal.returns-in_default-length-2-clause-value
+returns-in_default-length-2-clause-value g c =
+    let t = none_taken _ _ c.in_default.ensures.value c.in_default-length.ensures.value c.in_default-length-2.ensures.value in
+    sym (ap answer (walking_none _ _ _ _ _ _ c.loop-at.invariant (omega (arith, c.args.image.now.whole, c.loop-at-test.true)) t))
 
 pub returns-then-not-holds-clause-value : goal.returns-then-not-holds-clause-value
 returns-then-not-holds-clause-value g c =
     let s = c.args.image.now.whole in
-    let t = sym c.element_at.ensures.value ∙ c.in-Some.is in
-    sym (ap answer (walking_far _ _ _ _ _ _ _ _ c.loop-at.invariant (omega (arith, s, c.loop-at-test.true)) t (goes_there _ _ _ _ _ t c.in-Direct.is c.target-target.ensures.target) (omega (arith, s, c.if-target-image.false)) (sym c.if-not-holds.ensures)))
+    let t = direct_taken _ _ _ c.in_default.ensures.value c.in_default-length.ensures.value c.in-Some-length-2.ensures.value in
+    let d = target_of_direct _ _ _ t ∙ c.target-target.ensures.target (sym c.in-Some-length-2.ensures.value) in
+    sym (ap answer (walking_far _ _ _ _ _ _ _ _ c.loop-at.invariant (omega (arith, s, c.loop-at-test.true)) t d (omega (arith, s, c.if-target-image.false)) (sym c.if-not-holds.ensures)))
+
+pub loop-at-preserved-in-Some : goal.loop-at-preserved-in-Some
+loop-at-preserved-in-Some g c =
+    let bytes = g.C.Code.bytes c.args.image.now.code.now in
+    let s = c.args.image.now.whole in
+    let h : c.loop-at.at < length bytes = omega (arith, s, c.loop-at-test.true) in
+    let l : length bytes ≡ 8 * (c.args.image.now.size / 8) = sym s ∙ (size_of _ (sym c.args.image.now.fit)).whole in
+    let t = pair_taken _ _ _ c.in-Some.ensures.value in
+    walking_plain _ _ _ _ _ _ _ _ c.loop-at.invariant h l c.mark.ensures t c.in-Some.ensures.inside (target_of_pair _ _ _ t)
+
+pub loop-at-preserved-in-Some-length : goal.loop-at-preserved-in-Some-length
+loop-at-preserved-in-Some-length g c =
+    let bytes = g.C.Code.bytes c.args.image.now.code.now in
+    let s = c.args.image.now.whole in
+    let h : c.loop-at.at < length bytes = omega (arith, s, c.loop-at-test.true) in
+    let l : length bytes ≡ 8 * (c.args.image.now.size / 8) = sym s ∙ (size_of _ (sym c.args.image.now.fit)).whole in
+    let t = straight_taken _ _ _ c.in_default.ensures.value c.in-Some-length.ensures.value in
+    walking_plain _ _ _ _ _ _ _ _ c.loop-at.invariant h l c.mark.ensures t c.in-Some-length.ensures.inside (target_of_straight _ _ _ t)
 
 pub loop-at-preserved : goal.loop-at-preserved
 loop-at-preserved g c =
@@ -28,15 +48,13 @@ loop-at-preserved g c =
     let s = c.args.image.now.whole in
     let h : c.loop-at.at < length bytes = omega (arith, s, c.loop-at-test.true) in
     let l : length bytes ≡ 8 * (c.args.image.now.size / 8) = sym s ∙ (size_of _ (sym c.args.image.now.fit)).whole in
-    let t = sym c.element_at.ensures.value ∙ c.in-Some.is in
-    let i = c.in-Some.ensures.inside in
-    elim c.match-kind.branch [
-      | in-Direct+then-target-image w ↦
-          walking_near _ _ _ _ _ _ _ _ _ _ c.loop-at.invariant h l c.mark.ensures t i (goes_there _ _ _ _ _ t w.in-Direct.is w.target-target.ensures.target) (omega (arith, s, w.if-target-image.true)) (w.targets-is ∙ w.mark-then-target-image.ensures)
-      | in-Direct+else-target-image+else-not-holds w ↦
-          walking_same _ _ _ _ _ _ _ w.targets-is (walking_entry _ _ _ _ _ _ _ _ _ c.loop-at.invariant h l c.mark.ensures t i (goes_there _ _ _ _ _ t w.in-Direct.is w.target-target.ensures.target) (omega (arith, s, w.if-target-image.false)) (sym w.if-not-holds.ensures))
-      | in_default-kind w ↦
-          walking_same _ _ _ _ _ _ _ w.targets-is (walking_plain _ _ _ _ _ _ _ _ c.loop-at.invariant h l c.mark.ensures t i (goes_nowhere _ _ _ _ t w.in_default-kind.not-Direct))
+    let t = direct_taken _ _ _ c.in_default.ensures.value c.in_default-length.ensures.value c.in-Some-length-2.ensures.value in
+    let d = target_of_direct _ _ _ t ∙ c.target-target.ensures.target (sym c.in-Some-length-2.ensures.value) in
+    let i = c.in-Some-length-2.ensures.inside in
+    elim c.if-target-image.branch [
+      | then-target-image w ↦ walking_near _ _ _ _ _ _ _ _ _ _ c.loop-at.invariant h l c.mark.ensures t i d (omega (arith, s, w.if-target-image.true)) (w.targets-is ∙ w.mark-then-target-image.ensures)
+      | else-target-image+else-not-holds w ↦
+          walking_same _ _ _ _ _ _ _ w.targets-is (walking_entry _ _ _ _ _ _ _ _ _ c.loop-at.invariant h l c.mark.ensures t i d (omega (arith, s, w.if-target-image.false)) (sym w.if-not-holds.ensures))
     ]
 
 pub returns-clause-value : goal.returns-clause-value
