@@ -31,6 +31,7 @@ fn displacement<C: Code>(code: &C, at: u32, length: u32) -> u32
 
 /// Where a direct form of this length at an address goes to, modulo 2^32.
 // In line it would take registers from the walk, which meets few direct forms.
+#[tactic(auto, using(crate::proofs::Targets::target_is))]
 #[inline(never)]
 pub fn target<C: Code>(code: &C, at: u32, length: u32) -> u32
     ensures value { result ≡ target_by_length (C.bytes code.now) at length }

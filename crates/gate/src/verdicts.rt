@@ -66,6 +66,7 @@ fn image_octets<C: Code>(code: &C)
 }
 
 /// Judges an image, and leaves the marks of one that passes.
+// The buffers are two parameters: of a struct that lends both, a clause could name them only by place, as `marks.exit.1.0.now`.
 pub fn judge<C: Code>(
     code: &C,
     row: EntryRow,

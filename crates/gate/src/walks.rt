@@ -1,4 +1,4 @@
-//! The walk over an image, which marks its starts and its direct targets.
+//! The walk over an image, which marks its starts and its direct targets. Both buffers have the size that the image needs.
 ghost use Rattle.std.specs.Prelude.{◌≡◌, ◌/◌, true, length, is_ok};
 ghost use Rattle.gate.specs.Bitmaps.{bitmap};
 ghost use Rattle.gate.specs.Walks.{is_start, is_target, stopped};

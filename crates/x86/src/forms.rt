@@ -64,6 +64,7 @@ pub enum Form {
 
 impl Form {
     /// The form of a one-byte opcode, and the number in its bits: of a register, a condition or an operation.
+    // The number stands beside the form, so that the rows of specs/ are data; with it inside, each would hold a function.
     pub(crate) fn of(opcode: u8) -> Option<(Form, u8)>
         ensures { result ≡ look_up one_byte_rows opcode }
     {

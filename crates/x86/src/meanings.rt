@@ -9,6 +9,7 @@ use crate::registers::{ByteRegister, Condition, Operation, Register, SegmentRegi
 
 impl Width {
     /// A number of this width as a signed number of 32 bits.
+    // By `i8` it would need a number below 256 first; here each has its answer.
     pub fn extend(self, value: u32) -> u32
         ensures { result ≡ extended self value }
     {

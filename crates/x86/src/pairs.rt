@@ -86,6 +86,7 @@ fn bounded<C: Code>(code: &C, at: u32) -> Option<Pair>
 }
 
 /// The pair at an address; none where the bytes there are no pair, or run past the end.
+#[tactic(auto, using(crate::proofs::Paired::every_pair))]
 pub fn recognise<C: Code>(code: &C, at: u32) -> Option<Pair>
     ensures value { result ≡ pair_at (C.bytes code.now) at }
     ensures inside { OnSome result (Inside (C.bytes code.now) at 5) }

@@ -88,6 +88,7 @@ pub enum Scale {
     Eight,
 }
 
+// `numbered` and not `From<u8>`: a number has the few bits of its field, and a `From` would say which register each of 256 is.
 impl Register {
     pub(crate) fn numbered(n: u8) -> Self
         ensures { result ≡ register_of n }
