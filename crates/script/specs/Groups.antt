@@ -6,8 +6,7 @@ use Rattle.script.specs.Digits.{digit_of}
 use Rattle.script.specs.Numbers.{number_of}
 use Rattle.script.specs.Outcomes.{and_then}
 use Rattle.std.specs.List.{prefix_len}
-use Rattle.script.specs.declared.parts.Part.TheVariants.{Until}
-use Rattle.script.specs.Parts.{among}
+use Rattle.script.specs.Parts.{is_not}
 use Rattle.script.specs.Words.{words_of}
 
 -- two digits are a byte
@@ -51,7 +50,7 @@ count_of (star ∷ text) = number_of text
 
 -- how many characters of a word stand before a *
 abbrev pub digit_count : List ℕ → ℕ
-digit_count word = prefix_len (among (Until 42)) word
+digit_count word = prefix_len (is_not 42) word
 
 -- bytes go on with a group: at least one pair of digits, and how often they come
 abbrev pub group_of : List ℕ → List ℕ → Result (List ℕ) Problem

@@ -1,6 +1,6 @@
 //! A line of a script as a command. A new command is a variant, a name in `named` and a line of each one's definition.
 ghost use Rattle.std.specs.Prelude.{◌≡◌};
-ghost use Rattle.std.specs.Str.{bytes_eq};
+ghost use Rattle.std.specs.Option.{option_map};
 ghost use Rattle.script.specs.Outcomes.{Answers};
 ghost use Rattle.script.specs.Words.{first_word, after_word};
 ghost use Rattle.script.specs.Commands.{request_of, alone_of, path_of, module_of, number_in, two_numbers_of, row_of, gate_of, named_of, command_of, CommentUnread, BlankUnread};
@@ -15,8 +15,6 @@ use std::alloc::Global;
 /// What a line asks for.
 #[derive(Drop)]
 pub enum Command<'a> {
-    /// The line is blank, or a comment.
-    Nothing,
     /// A module with these bytes.
     Module(Vec<u8>),
     /// A module whose bytes are in the file with this path.
@@ -69,10 +67,7 @@ fn next_number(words: &mut Words<'_>) -> Result<u32, Problem>
     ensures value { result ≡ number_in (first_word words.old.left.now) }
     ensures after { words.new.left.now ≡ after_word words.old.left.now }
 {
-    match words.next() {
-        Some(word) => number(word),
-        None => Err(Problem::NoNumber),
-    }
+    number(words.next().ok_or(Problem::NoNumber)?)
 }
 
 // Two numbers and nothing more.
@@ -106,40 +101,29 @@ fn gate(rest: &[u8]) -> Result<Command<'_>, Problem>
     Ok(Command::GateFresh(starts, targets))
 }
 
-fn is(word: &[u8], name: &[u8]) -> bool
-    ensures { result ≡ bytes_eq word.now name.now }
-{
-    word == name
-}
-
 // A command by its name; `rest` is what stands after it.
 fn named<'a>(heap: Global, name: &[u8], rest: &'a [u8]) -> Result<Command<'a>, Problem>
     ensures { Answers request_of (named_of name.now rest.now) result }
 {
-    if is(name, b"module") {
-        module(heap, rest)
-    } else if is(name, b"list") {
-        alone(Command::List, rest)
-    } else if is(name, b"row") {
-        row(rest)
-    } else if is(name, b"gate") {
-        gate(rest)
-    } else if is(name, b"marks") {
-        alone(Command::Marks, rest)
-    } else {
-        Err(Problem::UnknownCommand)
+    match name {
+        b"module" => module(heap, rest),
+        b"list" => alone(Command::List, rest),
+        b"row" => row(rest),
+        b"gate" => gate(rest),
+        b"marks" => alone(Command::Marks, rest),
+        _ => Err(Problem::UnknownCommand),
     }
 }
 
-/// The command that a line asks for.
-pub fn parse(heap: Global, line: &[u8]) -> Result<Command<'_>, Problem>
-    ensures value { Answers request_of (command_of line.now) result }
+/// The command that a line asks for: none where the line is blank, or a comment.
+pub fn parse(heap: Global, line: &[u8]) -> Result<Option<Command<'_>>, Problem>
+    ensures value { Answers (option_map request_of) (command_of line.now) result }
     ensures comment { CommentUnread line.now }
     ensures blank { BlankUnread line.now }
 {
     let mut words = Words::new(content(line));
     match words.next() {
-        Some(name) => named(heap, name, words.rest()),
-        None => Ok(Command::Nothing),
+        Some(name) => Ok(Some(named(heap, name, words.rest())?)),
+        None => Ok(None),
     }
 }
