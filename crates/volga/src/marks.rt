@@ -1,5 +1,5 @@
 //! Marks buffers.
-use script::answers::Marked;
+use script::answers::Answer;
 use script::groups::LIMIT;
 use script::problems::Problem;
 use std::alloc::Global;
@@ -15,15 +15,12 @@ fn buffer(heap: Global, size: usize, fill: u8) -> Result<Vec<u8>, Problem> {
     if size > LIMIT {
         return Err(Problem::TooManyMarks);
     }
-    match vec![in heap; fill; size] {
-        Ok(buffer) => Ok(buffer),
-        Err(_) => Err(Problem::OutOfMemory),
-    }
+    Ok(vec![in heap; fill; size]?)
 }
 
 fn front(buffer: &Vec<u8>, count: usize) -> &[u8] {
     let bytes = buffer.as_slice();
-    &bytes[0..count.min(bytes.len())]
+    &bytes[..count.min(bytes.len())]
 }
 
 impl Marks {
@@ -43,6 +40,6 @@ impl Marks {
     pub(crate) fn show(&self, rt: &HostRuntime, count: usize) -> io::Result<()> {
         let starts = front(&self.starts, count);
         let targets = front(&self.targets, count);
-        println!(rt; "{}", Marked { starts, targets })
+        println!(rt; "{}", Answer::Marked { starts, targets })
     }
 }
