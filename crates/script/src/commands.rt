@@ -116,6 +116,7 @@ fn named<'a>(heap: Global, name: &[u8], rest: &'a [u8]) -> Result<Command<'a>, P
 }
 
 /// The command that a line asks for: none where the line is blank, or a comment.
+#[tactic(auto, using(crate::proofs::Unread::comment_unread, crate::proofs::Unread::blank_unread))]
 pub fn parse(heap: Global, line: &[u8]) -> Result<Option<Command<'_>>, Problem>
     ensures value { Answers (option_map request_of) (command_of line.now) result }
     ensures comment { CommentUnread line.now }
