@@ -18,7 +18,7 @@ impl fmt::Display for Offset {
 
     fn fmt<W: fmt::Write>(&self, f: &mut fmt::Formatter<W>) -> fmt::Result {
         match self.0 {
-            None => f.write_str(""),
+            None => Ok(()),
             Some(displacement) if displacement < 1 << 31 => {
                 write!(f, "+{}", Hexadecimal(displacement))
             }
