@@ -13,4 +13,4 @@ spaces (suc n) = ap (λ (t : List ℕ). 32 ∷ t) (spaces n)
 pub wide : (n : ℕ) → styled_text (format_spec 32 0 0 n (2 ^ 64 - 1)) [] ≡ replicate n 32
 unfolding padded take_chars char_count encode
 wide zero = refl
-wide (suc n) = rw (ne_eqb (suc n) 0 (λ z. omega (arith, z))) (rw sub-zero (rw sub-zero (spaces (suc n))))
+wide (suc n) = rw (ne_eqb (suc n) 0 (λ z. omega (arith, z))) (simp sub-zero (spaces (suc n)))
