@@ -18,9 +18,8 @@ fn buffer(heap: Global, size: usize, fill: u8) -> Result<Vec<u8>, Problem> {
     Ok(vec![in heap; fill; size]?)
 }
 
-fn front(buffer: &Vec<u8>, count: usize) -> &[u8] {
-    let bytes = buffer.as_slice();
-    &bytes[..count.min(bytes.len())]
+fn front(buffer: &[u8], count: usize) -> &[u8] {
+    buffer.get(..count).unwrap_or(buffer)
 }
 
 impl Marks {
@@ -38,8 +37,8 @@ impl Marks {
 
     /// Prints the first `count` bytes of both.
     pub(crate) fn show(&self, rt: &HostRuntime, count: usize) -> io::Result<()> {
-        let starts = front(&self.starts, count);
-        let targets = front(&self.targets, count);
+        let starts = front(self.starts.as_slice(), count);
+        let targets = front(self.targets.as_slice(), count);
         println!(rt; "{}", Answer::Marked { starts, targets })
     }
 }
