@@ -7,4 +7,3 @@ pub mod Spellings
 pub mod Splits
 pub mod Unread
 pub mod Named
-pub mod Numbered

@@ -3,7 +3,7 @@ ghost use Rattle.std.specs.Prelude.{◌≡◌};
 ghost use Rattle.std.specs.Option.{option_map};
 ghost use Rattle.script.specs.Outcomes.{Answers};
 ghost use Rattle.script.specs.Words.{first_word, after_word};
-ghost use Rattle.script.specs.Commands.{request_of, alone_of, path_of, module_of, number_in, two_numbers_of, row_of, gate_of, named_of, command_of, CommentUnread, BlankUnread};
+ghost use Rattle.script.specs.Commands.{request_of, ends_with, path_of, module_of, number_in, two_numbers_of, row_of, gate_of, named_of, command_of, CommentUnread, BlankUnread};
 
 use crate::groups::bytes;
 use crate::numbers::number;
@@ -52,12 +52,12 @@ fn module(heap: Global, rest: &[u8]) -> Result<Command<'_>, Problem>
     }
 }
 
-// A command that takes nothing more.
-fn alone<'a>(command: Command<'a>, rest: &[u8]) -> Result<Command<'a>, Problem>
-    ensures { Answers request_of (alone_of (request_of command.entry) rest.now) result }
+// What was read, if nothing more stands there.
+fn alone<T: Drop>(read: T, rest: &[u8]) -> Result<T, Problem>
+    ensures { result ≡ ends_with read rest.now }
 {
     if rest.is_empty() {
-        Ok(command)
+        Ok(read)
     } else {
         Err(Problem::TooManyWords)
     }
@@ -77,11 +77,7 @@ fn two_numbers(text: &[u8]) -> Result<(u32, u32), Problem>
     let mut words = Words::new(text);
     let first = next_number(&mut words)?;
     let second = next_number(&mut words)?;
-    if words.rest().is_empty() {
-        Ok((first, second))
-    } else {
-        Err(Problem::TooManyWords)
-    }
+    alone((first, second), words.rest())
 }
 
 fn row(rest: &[u8]) -> Result<Command<'_>, Problem>
@@ -102,6 +98,7 @@ fn gate(rest: &[u8]) -> Result<Command<'_>, Problem>
 }
 
 // A command by its name; `rest` is what stands after it.
+#[tactic(auto, using(crate::proofs::Named::ends_alone))]
 fn named<'a>(heap: Global, name: &[u8], rest: &'a [u8]) -> Result<Command<'a>, Problem>
     ensures { Answers request_of (named_of name.now rest.now) result }
 {

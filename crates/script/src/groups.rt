@@ -33,6 +33,7 @@ fn alone(character: u8) -> Problem
 }
 
 // The bytes that pairs of digits write.
+#[tactic(auto, using(crate::proofs::Pairs::one_byte))]
 fn pairs(heap: Global, digits: &[u8]) -> Result<Vec<u8>, Problem>
     ensures { Answers vec_items (pairs_of [] digits.now) result }
 {
@@ -57,6 +58,7 @@ fn count(rest: &[u8]) -> Result<u32, Problem>
 }
 
 // `bytes`, and then those of a group, `count` times over.
+#[tactic(auto, using(crate::proofs::Copies::copies_turn))]
 fn repeated(mut bytes: Vec<u8>, group: &[u8], count: u32) -> Result<Vec<u8>, Problem>
     ensures { Answers vec_items (repeated_of bytes.items group.now count) result }
 {

@@ -36,6 +36,7 @@ impl<'a> Iterator for Words<'a> {
 
     ghost remaining = { item_count (λ s. words_of s.left.now) };
 
+    #[tactic(auto, using(crate::proofs::Splits::split_as))]
     fn next(&mut self) -> Option<&'a [u8]> {
         let rest = self.rest();
         let size = front(rest, |character| !blank(character));

@@ -11,6 +11,7 @@ pub struct Mnemonic(pub &'static str);
 impl fmt::Display for Mnemonic {
     ghost output = { λ x. Some (mnemonic_text x.0.now) };
 
+    #[tactic(auto, using(crate::proofs::Gaps::wide))]
     fn fmt<W: fmt::Write>(&self, f: &mut fmt::Formatter<W>) -> fmt::Result {
         let name = self.0;
         let gap = 6usize.saturating_sub(name.len());
