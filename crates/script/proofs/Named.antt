@@ -7,7 +7,7 @@ use Rattle.script.specs.declared.problems.Problem.TheVariants.{UnknownCommand}
 use Rattle.script.specs.declared.commands.Command.{Command}
 use Rattle.script.specs.declared.problems.Problem.{Problem}
 use Rattle.script.specs.Outcomes.{Answers}
-use Rattle.script.specs.Commands.{request_of, alone_of, ends_with, named_of}
+use Rattle.script.specs.Commands.{request_of, ends_with, named_of}
 
 other : (name word : List ℕ) → (name ≡ word → ⊥) → bytes_eq name word ≡ false
 other name word h = false_from_ne_true (bytes_eq name word) (λ e. h ((bytes_eq-Decides name word).0 e))
@@ -22,6 +22,6 @@ unknown name rest m l r g k =
     ∙ cond-false _ _ _ (other name (codes "marks") k)
 
 -- a command that takes nothing more
-pub ends_alone : (command : Command) (rest : List ℕ) (r : Result Command Problem) → r ≡ ends_with command rest → Answers request_of (alone_of (request_of command) rest) r
+pub ends_alone : (command : Command) (rest : List ℕ) (r : Result Command Problem) → r ≡ ends_with command rest → Answers request_of (ends_with (request_of command) rest) r
 ends_alone command [] r e = rw e refl
 ends_alone command (c ∷ cs) r e = rw e (λ _. refl)

@@ -40,17 +40,12 @@ path_of (c ∷ cs) = Ok (file (c ∷ cs))
 abbrev pub module_of : List ℕ → Result Request Problem
 module_of rest = cond (bytes_eq (take 1 rest) (codes "@")) (path_of (drop 1 rest)) (and_then (bytes_of rest) (λ bs. Ok (bytes bs)))
 
--- a command that takes nothing more
-abbrev pub alone_of : Request → List ℕ → Result Request Problem
-alone_of request [] = Ok request
-alone_of request (c ∷ cs) = Err TooManyWords
-
 -- the number that a word is, if there is a word
 abbrev pub number_in : Option (List ℕ) → Result ℕ Problem
 number_in None = Err NoNumber
 number_in (Some word) = number_of word
 
--- an answer, if nothing more stands there
+-- what was read, if nothing more stands there
 abbrev pub ends_with : {X : Type 0} → X → List ℕ → Result X Problem
 ends_with x [] = Ok x
 ends_with x (c ∷ cs) = Err TooManyWords
@@ -73,10 +68,10 @@ gate_of (c ∷ cs) = and_then (two_numbers_of (c ∷ cs)) (λ x. Ok (gate_fresh 
 abbrev pub named_of : List ℕ → List ℕ → Result Request Problem
 named_of name rest =
     cond (bytes_eq name (codes "module")) (module_of rest)
-    (cond (bytes_eq name (codes "list")) (alone_of listing rest)
+    (cond (bytes_eq name (codes "list")) (ends_with listing rest)
     (cond (bytes_eq name (codes "row")) (row_of rest)
     (cond (bytes_eq name (codes "gate")) (gate_of rest)
-    (cond (bytes_eq name (codes "marks")) (alone_of marks rest) (Err UnknownCommand)))))
+    (cond (bytes_eq name (codes "marks")) (ends_with marks rest) (Err UnknownCommand)))))
 
 -- a first word is the name of a command, and without one there is none
 abbrev pub from_word : Option (List ℕ) → List ℕ → Result (Option Request) Problem
