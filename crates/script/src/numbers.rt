@@ -27,7 +27,7 @@ fn grown(value: u32, base: u32, character: u8) -> Result<u32, Problem>
     next.ok_or(Problem::NumberTooLarge)
 }
 
-// Digits of a base, at least one.
+// Digits of a base, at least one. The library's `from_str_radix` would also take a sign in front, which a script has not.
 fn numeral(digits: &[u8], base: u32) -> Result<u32, Problem>
     ensures { result ≡ numeral_of base digits.now }
 {

@@ -14,6 +14,7 @@ impl fmt::Display for Mnemonic {
     #[tactic(auto, using(crate::proofs::Gaps::wide))]
     fn fmt<W: fmt::Write>(&self, f: &mut fmt::Formatter<W>) -> fmt::Result {
         let name = self.0;
+        // `{name:<6}` would count characters, and `mnemonic_text` counts bytes.
         let gap = 6usize.saturating_sub(name.len());
         write!(f, "{name}{:gap$} ", "")
     }

@@ -12,6 +12,7 @@ impl fmt::Display for Hexadecimal {
     ghost output = { λ x. Some (number_text x.0) };
 
     fn fmt<W: fmt::Write>(&self, f: &mut fmt::Formatter<W>) -> fmt::Result {
+        // What `{:#x}` ensures leaves its prefix open.
         write!(f, "0x{:x}", self.0)
     }
 }
