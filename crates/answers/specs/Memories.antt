@@ -1,6 +1,8 @@
 -- Answers about a memory.
 use Rattle.std.specs.Prelude.{ℕ, List, ◌++◌, codes, decimal}
 use Rattle.script.specs.Spelled.{spelling}
+use Rattle.answers.specs.declared.memories.MemoryAnswer.{MemoryAnswer}
+use Rattle.answers.specs.declared.memories.MemoryAnswer.TheVariants.{MadeFlat, MadePaged, MadeAnyway, Shown}
 
 -- a flat memory was made
 abbrev pub made_flat_text : ℕ → List ℕ
@@ -17,3 +19,10 @@ made_anyway_text size = codes "memory " ++ decimal size
 -- bytes of a memory
 abbrev pub shown_text : List ℕ → List ℕ
 shown_text bs = codes "bytes " ++ spelling bs
+
+-- an answer about a memory in words
+abbrev pub memory_answer_text : MemoryAnswer → List ℕ
+memory_answer_text (MadeFlat size) = made_flat_text size
+memory_answer_text (MadePaged size frames) = made_paged_text size frames
+memory_answer_text (MadeAnyway size) = made_anyway_text size
+memory_answer_text (Shown bytes) = shown_text bytes.now

@@ -23,18 +23,13 @@ struct Case {
 }
 
 fn word<'a>(words: &mut Words<'a>) -> Result<&'a [u8], Problem> {
-    match words.next() {
-        Some(word) => Ok(word),
-        None => Err(Problem::NoNumber),
-    }
+    words.next().ok_or(Problem::NoNumber)
 }
 
 fn group(heap: Global, words: &mut Words<'_>) -> Result<Vec<u8>, Problem> {
-    let word = word(words)?;
-    if word == b"-".as_slice() {
-        Ok(Vec::new(heap))
-    } else {
-        bytes(heap, word)
+    match word(words)? {
+        b"-" => Ok(Vec::new(heap)),
+        word => bytes(heap, word),
     }
 }
 
@@ -74,30 +69,30 @@ fn show_verdict(rt: &HostRuntime, verdict: Result<(), Refusal>) -> io::Result<()
     }
 }
 
+fn run(rt: &HostRuntime, case: Case) -> io::Result<()> {
+    let Case {
+        image,
+        row,
+        mut starts,
+        mut targets,
+    } = case;
+    let verdict = judge(&image, row, starts.as_mut_slice(), targets.as_mut_slice());
+    show_verdict(rt, verdict)?;
+    show_buffer(rt, starts.as_slice())?;
+    show_buffer(rt, targets.as_slice())?;
+    println!(rt; "")
+}
+
 fn show(rt: &HostRuntime, line: &[u8]) -> io::Result<()> {
     match parsed(rt.alloc(), line) {
-        Ok(
-            Case {
-                image,
-                row,
-                mut starts,
-                mut targets,
-            },
-        ) => {
-            let verdict = judge(&image, row, starts.as_mut_slice(), targets.as_mut_slice());
-            show_verdict(rt, verdict)?;
-            show_buffer(rt, starts.as_slice())?;
-            show_buffer(rt, targets.as_slice())?;
-            println!(rt; "")
-        }
+        Ok(case) => run(rt, case),
         Err(problem) => println!(rt; "error: {problem}"),
     }
 }
 
 fn main(rt: HostRuntime) -> anyhow::Result<()> {
     for line in BufReader::new(rt.alloc(), rt.stdin())?.lines(rt.alloc()) {
-        let line = line?;
-        show(&rt, line.as_bytes())?;
+        show(&rt, line?.as_bytes())?;
     }
     Ok(())
 }

@@ -12,6 +12,7 @@ use syntax::instructions::Shown;
 use x86::decoding::decode;
 use x86::pairs::recognise;
 
+// A word of a listing: the gate has no words for a kind, and a Display of its type could not stand here.
 fn kind_word(kind: Kind) -> &'static str
     ensures { result.now ≡ kind_word_of kind }
 {
@@ -22,28 +23,23 @@ fn kind_word(kind: Kind) -> &'static str
     }
 }
 
-/// The bytes of an element at an address, as instructions.
+/// The bytes of an element as instructions.
 #[derive(Clone, Copy)]
-struct Worded<'a> {
-    kind: Kind,
-    at: u32,
-    bytes: &'a [u8],
-}
+struct Worded<'a>(Element<'a>);
 
 impl fmt::Display for Worded<'_> {
-    ghost output = { λ x. Some (wording x.kind x.at x.bytes.now) };
+    ghost output = { λ x. Some (wording x.0.kind x.0.at x.0.bytes.now) };
 
     fn fmt<W: fmt::Write>(&self, f: &mut fmt::Formatter<W>) -> fmt::Result {
-        let bytes = self.bytes;
-        let at = self.at;
-        match self.kind {
+        let Element { kind, at, bytes } = self.0;
+        match kind {
             Kind::Pair => match recognise(&bytes, 0) {
                 Some(pair) => Intel(pair).fmt(f),
-                None => f.write_str(""),
+                None => Ok(()),
             },
             Kind::Straight | Kind::Direct => match decode(&bytes, 0) {
                 Some(decoded) => Shown { at, decoded }.fmt(f),
-                None => f.write_str(""),
+                None => Ok(()),
             },
         }
     }
@@ -63,7 +59,7 @@ impl fmt::Display for Line<'_> {
             "{at} {} {}: {}",
             kind_word(kind),
             Spelled(bytes),
-            Worded { kind, at, bytes }
+            Worded(self.0)
         )
     }
 }

@@ -1,11 +1,9 @@
 pub mod Written
 pub mod Copies
-pub mod Gathers
-pub mod Numerals
 pub mod Outcomes
 pub mod Pairs
 pub mod Rereading
 pub mod Spellings
 pub mod Splits
 pub mod Unread
-pub mod Numbered
+pub mod Named

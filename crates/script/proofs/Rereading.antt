@@ -6,8 +6,7 @@ use Rattle.std.proofs.lemmas.List.{append-nil}
 use Rattle.std.proofs.lemmas.Bool.{cond-true, cond-false, not-true, le-leb, ne_eqb}
 use Rattle.std.proofs.lemmas.Bool.Decides.{nat_tests}
 use Rattle.script.specs.declared.problems.Problem.{Problem}
-use Rattle.script.specs.declared.parts.Part.TheVariants.{Word, Until}
-use Rattle.script.specs.Parts.{is_blank, among}
+use Rattle.script.specs.Parts.{is_blank, in_word, is_not}
 use Rattle.script.specs.Words.{led, words_of}
 use Rattle.script.specs.Groups.{byte_of, pairs_of, repeated_of, count_of, digit_count, group_of, groups_of, bytes_of}
 use Rattle.script.specs.Outcomes.{Answers}
@@ -19,17 +18,17 @@ leading_all : (p : ℕ → Bool) (xs : List ℕ) → AllByRecursion (λ c. p c �
 leading_all p [] u = refl
 leading_all p (x ∷ xs) u = cond-true _ _ _ u.0 ∙ omega (arith, leading_all p xs u.1)
 
-in_word : (d : ℕ) → d < 16 → among Word (character d) ≡ true
-in_word d h = grind (arith, nat_tests)
+in_letters : (d : ℕ) → d < 16 → in_word (character d) ≡ true
+in_letters d h = grind (arith, nat_tests)
 
-in_digits : (d : ℕ) → d < 16 → among (Until 42) (character d) ≡ true
+in_digits : (d : ℕ) → d < 16 → is_not 42 (character d) ≡ true
 in_digits d h = grind (arith, nat_tests)
 
 all_spelled : (p : ℕ → Bool) → ((d : ℕ) → d < 16 → p (character d) ≡ true) → (bs : List ℕ) → AllByRecursion (λ b. b < 256) bs → AllByRecursion (λ c. p c ≡ true) (spelling bs)
 all_spelled p f [] u = tt
 all_spelled p f (b ∷ bs) u = let h : b < 256 = u.0 in (f (b / 16) (omega arith), (f (b % 16) (omega arith), all_spelled p f bs u.1))
 
-one_word : (c : ℕ) (cs : List ℕ) → AllByRecursion (λ c. among Word c ≡ true) (c ∷ cs) → words_of (c ∷ cs) ≡ (c ∷ cs) ∷ []
+one_word : (c : ℕ) (cs : List ℕ) → AllByRecursion (λ c. in_word c ≡ true) (c ∷ cs) → words_of (c ∷ cs) ≡ (c ∷ cs) ∷ []
 one_word c [] u = cond-false _ _ _ (not-true (is_blank c) u.0)
 one_word c (d ∷ ds) u = cond-false _ _ _ (not-true (is_blank c) u.0) ∙ cond-true _ _ _ u.1.0 ∙ ap (led c) (one_word d ds u.1)
 
@@ -58,8 +57,8 @@ pub bytes_read : (bs : List ℕ) → AllByRecursion (λ b. b < 256) bs → lengt
 bytes_read [] u h = refl
 bytes_read (b ∷ bs) u h =
     let text = spelling (b ∷ bs) in
-    let digits = leading_all (among (Until 42)) text (all_spelled (among (Until 42)) in_digits (b ∷ bs) u) in
-    ap (groups_of []) (one_word (character (b / 16)) (character (b % 16) ∷ spelling bs) (all_spelled (among Word) in_word (b ∷ bs) u))
+    let digits = leading_all (is_not 42) text (all_spelled (is_not 42) in_digits (b ∷ bs) u) in
+    ap (groups_of []) (one_word (character (b / 16)) (character (b % 16) ∷ spelling bs) (all_spelled in_word in_letters (b ∷ bs) u))
     ∙ goes_on (group_of [] text) (λ done. Ok done) (b ∷ bs) (group_plain text (b ∷ bs) digits (omega arith) (pairs_spelled [] (b ∷ bs) u) h)
 
 pub reads_bytes : {V : Type 0} (items : V → List ℕ) (text : List ℕ) (r : Result V Problem) → Answers items (bytes_of text) r → ReadsBytes items text r

@@ -1,14 +1,13 @@
 -- The first word of a text is the first of its words.
-use Rattle.std.proofs.Common.{◌≡◌, ℕ, ◌+◌, Bool, true, false, cond, not, eqb, ◌⊎◌, List, [], ◌∷◌, take, drop, Some, None, Option, sym, refl, ap, ◌∙◌, inl, inr, one-add, arith}
+use Rattle.std.proofs.Common.{◌≡◌, ℕ, ◌+◌, Bool, true, false, cond, eqb, ◌⊎◌, List, [], ◌∷◌, take, drop, Some, None, Option, sym, refl, ap, ◌∙◌, inl, inr, one-add, arith}
 use Rattle.std.specs.List.{prefix_len}
-use Rattle.std.proofs.lemmas.Bool.{cond-false, ne_eqb}
-use Rattle.script.specs.declared.parts.Part.TheVariants.{Blanks}
-use Rattle.script.specs.Parts.{is_blank, among}
+use Rattle.std.proofs.lemmas.Bool.{cond-false, ne_eqb, not-true}
+use Rattle.script.specs.Parts.{is_blank}
 use Rattle.script.specs.Words.{rest_of, word_size, first_word, after_word, starts_word, led, words_of, listed}
 
 -- blanks in front are no word
 skip_one : (b : Bool) (c : ℕ) (cs : List ℕ) → is_blank c ≡ b → words_of (rest_of cs) ≡ words_of cs →
-    words_of (drop (cond b (1 + prefix_len (among Blanks) cs) 0) (c ∷ cs)) ≡ words_of (c ∷ cs)
+    words_of (drop (cond b (1 + prefix_len is_blank cs) 0) (c ∷ cs)) ≡ words_of (c ∷ cs)
 skip_one true c cs e ih = rw (one-add, e) ih
 skip_one false c cs e ih = refl
 
@@ -18,7 +17,7 @@ skips (c ∷ cs) = skip_one (is_blank c) c cs refl (skips cs)
 
 -- after the blanks there is nothing, or a word
 begin_one : (b : Bool) (c : ℕ) (cs : List ℕ) → is_blank c ≡ b → (rest_of cs ≡ []) ⊎ (starts_word (rest_of cs) ≡ true) →
-    (drop (cond b (1 + prefix_len (among Blanks) cs) 0) (c ∷ cs) ≡ []) ⊎ (starts_word (drop (cond b (1 + prefix_len (among Blanks) cs) 0) (c ∷ cs)) ≡ true)
+    (drop (cond b (1 + prefix_len is_blank cs) 0) (c ∷ cs) ≡ []) ⊎ (starts_word (drop (cond b (1 + prefix_len is_blank cs) 0) (c ∷ cs)) ≡ true)
 begin_one true c cs e ih = rw one-add ih
 begin_one false c cs e ih = inr (rw e refl)
 
@@ -39,13 +38,9 @@ unfolding Front
 front_one true c cs e b ih = rw (b, e, one-add) (ap (led c) (ih e))
 front_one false c cs e b ih = rw (b, e, none_here cs e) refl
 
-not_blank : (b : Bool) → not b ≡ true → b ≡ false
-not_blank false e = refl
-not_blank true e = sym e
-
 front : (text : List ℕ) → starts_word text ≡ true → Front text
 front [] e = let z : ◌≡◌ {A = ℕ} 0 1 = cc in absurd (omega arith)
-front (c ∷ cs) e = front_one (starts_word cs) c cs refl (not_blank (is_blank c) e) (front cs)
+front (c ∷ cs) e = front_one (starts_word cs) c cs refl (not-true (is_blank c) e) (front cs)
 
 some_size : (text : List ℕ) → starts_word text ≡ true → word_size text ≡ 0 → ⊥
 some_size [] e z = let z : ◌≡◌ {A = ℕ} 0 1 = cc in omega arith

@@ -4,44 +4,43 @@ use Rattle.std.specs.List.{prefix_len, suffix_len}
 use Rattle.std.proofs.lemmas.List.{reverse-append, length_push, take-append-le}
 use Rattle.std.proofs.lemmas.Bool.{cond-true}
 use Rattle.std.proofs.lemmas.Bool.Decides.{nat_tests}
-use Rattle.script.specs.declared.parts.Part.TheVariants.{Until}
-use Rattle.script.specs.Parts.{is_blank, among, trimmed_of, content_of}
+use Rattle.script.specs.Parts.{is_blank, is_not, trimmed_of, content_of}
 use Rattle.script.specs.Words.{rest_of, first_word, after_word}
 use Rattle.script.specs.Commands.{from_word, command_of}
 
 -- a line up to its comment
 abbrev cut : List ℕ → List ℕ
-cut line = take (prefix_len (among (Until 35)) line) line
+cut line = take (prefix_len (is_not 35) line) line
 
 -- one character more in front of two lines that have one cut
 cut_more : (b : Bool) (c : ℕ) (left right : List ℕ) → cut left ≡ cut right →
-    take (cond b (1 + prefix_len (among (Until 35)) left) 0) (c ∷ left) ≡ take (cond b (1 + prefix_len (among (Until 35)) right) 0) (c ∷ right)
+    take (cond b (1 + prefix_len (is_not 35) left) 0) (c ∷ left) ≡ take (cond b (1 + prefix_len (is_not 35) right) 0) (c ∷ right)
 cut_more true c left right e = rw (one-add, one-add) (ap (λ (cs : List ℕ). c ∷ cs) e)
 cut_more false c left right e = refl
 
 cut_comment : (line text : List ℕ) → cut (line ++ 35 ∷ text) ≡ cut line
 cut_comment [] text = refl
-cut_comment (c ∷ cs) text = cut_more (among (Until 35) c) c (cs ++ 35 ∷ text) cs (cut_comment cs text)
+cut_comment (c ∷ cs) text = cut_more (is_not 35 c) c (cs ++ 35 ∷ text) cs (cut_comment cs text)
 
 -- a blank at the end of a line is at the end of what is cut, or not in it
 Ends : List ℕ → ℕ → Type 0
 Ends line c = (cut (line ++ (c ∷ [])) ≡ cut line) ⊎ (cut (line ++ (c ∷ [])) ≡ cut line ++ (c ∷ []))
 
 ends_more : (b : Bool) (a : ℕ) (cs : List ℕ) (c : ℕ) → Ends cs c →
-    (take (cond b (1 + prefix_len (among (Until 35)) (cs ++ (c ∷ []))) 0) (a ∷ (cs ++ (c ∷ []))) ≡ take (cond b (1 + prefix_len (among (Until 35)) cs) 0) (a ∷ cs))
-    ⊎ (take (cond b (1 + prefix_len (among (Until 35)) (cs ++ (c ∷ []))) 0) (a ∷ (cs ++ (c ∷ []))) ≡ take (cond b (1 + prefix_len (among (Until 35)) cs) 0) (a ∷ cs) ++ (c ∷ []))
+    (take (cond b (1 + prefix_len (is_not 35) (cs ++ (c ∷ []))) 0) (a ∷ (cs ++ (c ∷ []))) ≡ take (cond b (1 + prefix_len (is_not 35) cs) 0) (a ∷ cs))
+    ⊎ (take (cond b (1 + prefix_len (is_not 35) (cs ++ (c ∷ []))) 0) (a ∷ (cs ++ (c ∷ []))) ≡ take (cond b (1 + prefix_len (is_not 35) cs) 0) (a ∷ cs) ++ (c ∷ []))
 unfolding Ends
 ends_more true a cs c (inl e) = inl (rw (one-add, one-add) (ap (λ (t : List ℕ). a ∷ t) e))
 ends_more true a cs c (inr e) = inr (rw (one-add, one-add) (ap (λ (t : List ℕ). a ∷ t) e))
 ends_more false a cs c h = inl refl
 
-no_comment : (c : ℕ) → is_blank c ≡ true → among (Until 35) c ≡ true
+no_comment : (c : ℕ) → is_blank c ≡ true → is_not 35 c ≡ true
 no_comment c h = grind (arith, nat_tests)
 
 ends : (line : List ℕ) (c : ℕ) → is_blank c ≡ true → Ends line c
 unfolding Ends
 ends [] c h = inr (ap (λ (n : ℕ). take n (c ∷ [])) (cond-true _ _ _ (no_comment c h)))
-ends (a ∷ cs) c h = ends_more (among (Until 35) a) a cs c (ends cs c h)
+ends (a ∷ cs) c h = ends_more (is_not 35 a) a cs c (ends cs c h)
 
 ending_push : (text : List ℕ) (c : ℕ) → is_blank c ≡ true → suffix_len is_blank (text ++ (c ∷ [])) ≡ 1 + suffix_len is_blank text
 ending_push text c h = ap (prefix_len is_blank) (reverse-append text (c ∷ [])) ∙ cond-true _ _ _ h

@@ -1,5 +1,7 @@
 -- Answers in words.
 use Rattle.std.specs.Prelude.{ℕ, List, ◌∷◌, ◌++◌, codes, decimal}
+use Rattle.script.specs.declared.answers.Answer.{Answer}
+use Rattle.script.specs.declared.answers.Answer.TheVariants.{Taken, Rowed, Ended, Passed, Marked, Failed}
 use Rattle.script.specs.declared.problems.Problem.{Problem}
 use Rattle.script.specs.Explained.{explanation}
 use Rattle.script.specs.Spelled.{spelling}
@@ -26,3 +28,12 @@ marked_text starts targets = codes "starts " ++ (spelling starts ++ ((10 ∷ cod
 -- a line could not be carried out
 abbrev pub failure_text : ℕ → Problem → List ℕ
 failure_text line why = codes "error line " ++ (decimal line ++ (codes ": " ++ explanation why))
+
+-- an answer in words
+abbrev pub answer_text : Answer → List ℕ
+answer_text (Taken n) = taken_text n
+answer_text (Rowed base count) = rowed_text base count
+answer_text (Ended n) = ended_text n
+answer_text Passed = passed_text
+answer_text (Marked starts targets) = marked_text starts.now targets.now
+answer_text (Failed line why) = failure_text line why

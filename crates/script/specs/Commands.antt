@@ -13,7 +13,6 @@ use Rattle.script.specs.Words.{rest_of, first_word, after_word}
 
 -- a command, with its bytes and its path as lists
 pub data Request : Type 0 where
-  nothing : Request
   bytes : List ℕ → Request
   file : List ℕ → Request
   listing : Request
@@ -24,7 +23,6 @@ pub data Request : Type 0 where
 
 -- what a command stands for
 abbrev pub request_of : Command → Request
-request_of command.Nothing = nothing
 request_of (command.Module v) = bytes (vec_items v)
 request_of (command.ModuleFile path) = file path.now
 request_of command.List = listing
@@ -42,17 +40,12 @@ path_of (c ∷ cs) = Ok (file (c ∷ cs))
 abbrev pub module_of : List ℕ → Result Request Problem
 module_of rest = cond (bytes_eq (take 1 rest) (codes "@")) (path_of (drop 1 rest)) (and_then (bytes_of rest) (λ bs. Ok (bytes bs)))
 
--- a command that takes nothing more
-abbrev pub alone_of : Request → List ℕ → Result Request Problem
-alone_of request [] = Ok request
-alone_of request (c ∷ cs) = Err TooManyWords
-
 -- the number that a word is, if there is a word
 abbrev pub number_in : Option (List ℕ) → Result ℕ Problem
 number_in None = Err NoNumber
 number_in (Some word) = number_of word
 
--- an answer, if nothing more stands there
+-- what was read, if nothing more stands there
 abbrev pub ends_with : {X : Type 0} → X → List ℕ → Result X Problem
 ends_with x [] = Ok x
 ends_with x (c ∷ cs) = Err TooManyWords
@@ -75,18 +68,18 @@ gate_of (c ∷ cs) = and_then (two_numbers_of (c ∷ cs)) (λ x. Ok (gate_fresh 
 abbrev pub named_of : List ℕ → List ℕ → Result Request Problem
 named_of name rest =
     cond (bytes_eq name (codes "module")) (module_of rest)
-    (cond (bytes_eq name (codes "list")) (alone_of listing rest)
+    (cond (bytes_eq name (codes "list")) (ends_with listing rest)
     (cond (bytes_eq name (codes "row")) (row_of rest)
     (cond (bytes_eq name (codes "gate")) (gate_of rest)
-    (cond (bytes_eq name (codes "marks")) (alone_of marks rest) (Err UnknownCommand)))))
+    (cond (bytes_eq name (codes "marks")) (ends_with marks rest) (Err UnknownCommand)))))
 
--- a first word is the name of a command
-abbrev pub from_word : Option (List ℕ) → List ℕ → Result Request Problem
-from_word None rest = Ok nothing
-from_word (Some name) rest = named_of name rest
+-- a first word is the name of a command, and without one there is none
+abbrev pub from_word : Option (List ℕ) → List ℕ → Result (Option Request) Problem
+from_word None rest = Ok None
+from_word (Some name) rest = and_then (named_of name rest) (λ request. Ok (Some request))
 
--- the command that a line asks for
-abbrev pub command_of : List ℕ → Result Request Problem
+-- the command that a line asks for, if it asks for one
+abbrev pub command_of : List ℕ → Result (Option Request) Problem
 command_of line = from_word (first_word (content_of line)) (rest_of (after_word (content_of line)))
 
 -- a comment at the end of a line changes nothing

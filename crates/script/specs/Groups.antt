@@ -1,13 +1,12 @@
 -- The bytes that groups of hexadecimal digits write.
-use Rattle.std.specs.Prelude.{ℕ, zero, suc, ◌+◌, ◌*◌, cond, List, [], ◌∷◌, ◌++◌, length, take, drop, Some, None, Ok, Err, Option, Result, ◌==◌, nat_le}
+use Rattle.std.specs.Prelude.{ℕ, ◌+◌, ◌*◌, cond, List, [], ◌∷◌, ◌++◌, length, take, drop, Some, None, Ok, Err, Option, Result, ◌==◌, nat_le}
 use Rattle.script.specs.declared.problems.Problem.{Problem}
 use Rattle.script.specs.declared.problems.Problem.TheVariants.{OddDigits, NoHexDigit, TooManyBytes}
 use Rattle.script.specs.Digits.{digit_of}
 use Rattle.script.specs.Numbers.{number_of}
 use Rattle.script.specs.Outcomes.{and_then}
-use Rattle.std.specs.List.{prefix_len}
-use Rattle.script.specs.declared.parts.Part.TheVariants.{Until}
-use Rattle.script.specs.Parts.{among}
+use Rattle.std.specs.List.{prefix_len, repeat}
+use Rattle.script.specs.Parts.{is_not}
 use Rattle.script.specs.Words.{words_of}
 
 -- two digits are a byte
@@ -35,14 +34,9 @@ pairs_of done [] = Ok done
 pairs_of done (c ∷ []) = Err (left_over c)
 pairs_of done (high ∷ (low ∷ cs)) = and_then (byte_of high low) (λ b. pairs_of (done ++ (b ∷ [])) cs)
 
--- a list n times over
-abbrev pub copies : ℕ → List ℕ → List ℕ
-copies zero group = []
-copies (suc n) group = group ++ copies n group
-
 -- bytes go on with a group, n times over, as long as they are no more than the limit
 abbrev pub repeated_of : List ℕ → List ℕ → ℕ → Result (List ℕ) Problem
-repeated_of done group n = cond (nat_le (length done + length group * n) 1048576) (Ok (done ++ copies n group)) (Err TooManyBytes)
+repeated_of done group n = cond (nat_le (length done + length group * n) 1048576) (Ok (done ++ repeat n group)) (Err TooManyBytes)
 
 -- after the digits of a group: nothing, which is once, or a * and how often they come
 abbrev pub count_of : List ℕ → Result ℕ Problem
@@ -51,7 +45,7 @@ count_of (star ∷ text) = number_of text
 
 -- how many characters of a word stand before a *
 abbrev pub digit_count : List ℕ → ℕ
-digit_count word = prefix_len (among (Until 42)) word
+digit_count word = prefix_len (is_not 42) word
 
 -- bytes go on with a group: at least one pair of digits, and how often they come
 abbrev pub group_of : List ℕ → List ℕ → Result (List ℕ) Problem

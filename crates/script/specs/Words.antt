@@ -1,16 +1,15 @@
 -- The words of a text.
-use Rattle.std.specs.Prelude.{ℕ, Bool, false, cond, not, List, [], ◌∷◌, take, drop, Some, None, Option, ◌==◌}
+use Rattle.std.specs.Prelude.{◌≡◌, ℕ, Bool, false, cond, not, List, [], ◌∷◌, take, drop, Some, None, Option, ◌==◌}
 use Rattle.std.specs.List.{prefix_len}
-use Rattle.script.specs.declared.parts.Part.TheVariants.{Blanks, Word}
-use Rattle.script.specs.Parts.{is_blank, among}
+use Rattle.script.specs.Parts.{is_blank, in_word}
 
 -- a text from its first word on
 abbrev pub rest_of : List ℕ → List ℕ
-rest_of text = drop (prefix_len (among Blanks) text) text
+rest_of text = drop (prefix_len is_blank text) text
 
 -- how long the word is that a text begins with
 abbrev pub word_size : List ℕ → ℕ
-word_size text = prefix_len (among Word) text
+word_size text = prefix_len in_word text
 
 -- the first word of a text, where it has one
 abbrev pub first_word : List ℕ → Option (List ℕ)
@@ -39,3 +38,9 @@ words_of (c ∷ cs) = cond (is_blank c) (words_of cs) (cond (starts_word cs) (le
 abbrev pub listed : Option (List ℕ) → List (List ℕ) → List (List ℕ)
 listed None more = []
 listed (Some word) more = word ∷ more
+
+-- from one text a first word was taken, where it has one, and the other text is what stands after it
+pub record TakesWord (text : List ℕ) (taken : Option (List ℕ)) (left : List ℕ) : Type 0 where
+  pub word : taken ≡ first_word text
+  pub after : left ≡ after_word text
+  pub words : words_of text ≡ listed taken (words_of left)

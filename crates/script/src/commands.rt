@@ -1,9 +1,9 @@
 //! A line of a script as a command. A new command is a variant, a name in `named` and a line of each one's definition.
 ghost use Rattle.std.specs.Prelude.{◌≡◌};
-ghost use Rattle.std.specs.Str.{bytes_eq};
+ghost use Rattle.std.specs.Option.{option_map};
 ghost use Rattle.script.specs.Outcomes.{Answers};
 ghost use Rattle.script.specs.Words.{first_word, after_word};
-ghost use Rattle.script.specs.Commands.{request_of, alone_of, path_of, module_of, number_in, two_numbers_of, row_of, gate_of, named_of, command_of, CommentUnread, BlankUnread};
+ghost use Rattle.script.specs.Commands.{request_of, ends_with, path_of, module_of, number_in, two_numbers_of, row_of, gate_of, named_of, command_of, CommentUnread, BlankUnread};
 
 use crate::groups::bytes;
 use crate::numbers::number;
@@ -15,8 +15,6 @@ use std::alloc::Global;
 /// What a line asks for.
 #[derive(Drop)]
 pub enum Command<'a> {
-    /// The line is blank, or a comment.
-    Nothing,
     /// A module with these bytes.
     Module(Vec<u8>),
     /// A module whose bytes are in the file with this path.
@@ -54,12 +52,12 @@ fn module(heap: Global, rest: &[u8]) -> Result<Command<'_>, Problem>
     }
 }
 
-// A command that takes nothing more.
-fn alone<'a>(command: Command<'a>, rest: &[u8]) -> Result<Command<'a>, Problem>
-    ensures { Answers request_of (alone_of (request_of command.entry) rest.now) result }
+// What was read, if nothing more stands there.
+fn alone<T: Drop>(read: T, rest: &[u8]) -> Result<T, Problem>
+    ensures { result ≡ ends_with read rest.now }
 {
     if rest.is_empty() {
-        Ok(command)
+        Ok(read)
     } else {
         Err(Problem::TooManyWords)
     }
@@ -69,10 +67,7 @@ fn next_number(words: &mut Words<'_>) -> Result<u32, Problem>
     ensures value { result ≡ number_in (first_word words.old.left.now) }
     ensures after { words.new.left.now ≡ after_word words.old.left.now }
 {
-    match words.next() {
-        Some(word) => number(word),
-        None => Err(Problem::NoNumber),
-    }
+    number(words.next().ok_or(Problem::NoNumber)?)
 }
 
 // Two numbers and nothing more.
@@ -82,11 +77,7 @@ fn two_numbers(text: &[u8]) -> Result<(u32, u32), Problem>
     let mut words = Words::new(text);
     let first = next_number(&mut words)?;
     let second = next_number(&mut words)?;
-    if words.rest().is_empty() {
-        Ok((first, second))
-    } else {
-        Err(Problem::TooManyWords)
-    }
+    alone((first, second), words.rest())
 }
 
 fn row(rest: &[u8]) -> Result<Command<'_>, Problem>
@@ -106,40 +97,31 @@ fn gate(rest: &[u8]) -> Result<Command<'_>, Problem>
     Ok(Command::GateFresh(starts, targets))
 }
 
-fn is(word: &[u8], name: &[u8]) -> bool
-    ensures { result ≡ bytes_eq word.now name.now }
-{
-    word == name
-}
-
 // A command by its name; `rest` is what stands after it.
+#[tactic(auto, using(crate::proofs::Named::ends_alone))]
 fn named<'a>(heap: Global, name: &[u8], rest: &'a [u8]) -> Result<Command<'a>, Problem>
     ensures { Answers request_of (named_of name.now rest.now) result }
 {
-    if is(name, b"module") {
-        module(heap, rest)
-    } else if is(name, b"list") {
-        alone(Command::List, rest)
-    } else if is(name, b"row") {
-        row(rest)
-    } else if is(name, b"gate") {
-        gate(rest)
-    } else if is(name, b"marks") {
-        alone(Command::Marks, rest)
-    } else {
-        Err(Problem::UnknownCommand)
+    match name {
+        b"module" => module(heap, rest),
+        b"list" => alone(Command::List, rest),
+        b"row" => row(rest),
+        b"gate" => gate(rest),
+        b"marks" => alone(Command::Marks, rest),
+        _ => Err(Problem::UnknownCommand),
     }
 }
 
-/// The command that a line asks for.
-pub fn parse(heap: Global, line: &[u8]) -> Result<Command<'_>, Problem>
-    ensures value { Answers request_of (command_of line.now) result }
+/// The command that a line asks for: none where the line is blank, or a comment.
+#[tactic(auto, using(crate::proofs::Unread::comment_unread, crate::proofs::Unread::blank_unread))]
+pub fn parse(heap: Global, line: &[u8]) -> Result<Option<Command<'_>>, Problem>
+    ensures value { Answers (option_map request_of) (command_of line.now) result }
     ensures comment { CommentUnread line.now }
     ensures blank { BlankUnread line.now }
 {
     let mut words = Words::new(content(line));
     match words.next() {
-        Some(name) => named(heap, name, words.rest()),
-        None => Ok(Command::Nothing),
+        Some(name) => Ok(Some(named(heap, name, words.rest())?)),
+        None => Ok(None),
     }
 }

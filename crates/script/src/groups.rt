@@ -6,7 +6,7 @@ ghost use Rattle.script.specs.Outcomes.{Answers};
 ghost use Rattle.script.specs.Spelled.{ReadsBytes};
 
 use crate::numbers::{digit, number};
-use crate::parts::Part;
+use crate::parts::front;
 use crate::problems::Problem;
 use crate::words::Words;
 use std::alloc::Global;
@@ -17,10 +17,9 @@ pub const LIMIT: usize = 1_048_576;
 fn byte(high: u8, low: u8) -> Result<u8, Problem>
     ensures { result ≡ byte_of high low }
 {
-    match (digit(high), digit(low)) {
-        (Some(high), Some(low)) => Ok(high * 16 + low),
-        _ => Err(Problem::NoHexDigit),
-    }
+    let high = digit(high).ok_or(Problem::NoHexDigit)?;
+    let low = digit(low).ok_or(Problem::NoHexDigit)?;
+    Ok((high * 16 + low) as u8)
 }
 
 // What is wrong with a character that no other stands beside.
@@ -34,17 +33,16 @@ fn alone(character: u8) -> Problem
 }
 
 // The bytes that pairs of digits write.
+#[tactic(auto, using(crate::proofs::Pairs::one_byte))]
 fn pairs(heap: Global, digits: &[u8]) -> Result<Vec<u8>, Problem>
     ensures { Answers vec_items (pairs_of [] digits.now) result }
 {
     let mut bytes = Vec::new(heap);
-    let mut rest = digits;
-    while let Some((high, after)) = rest.split_first() {
-        let Some((low, after)) = after.split_first() else {
-            return Err(alone(*high));
+    for pair in digits.chunks(2) {
+        let [high, low] = pair else {
+            return Err(alone(pair[0]));
         };
         bytes.push(byte(*high, *low)?)?;
-        rest = after;
     }
     Ok(bytes)
 }
@@ -60,6 +58,7 @@ fn count(rest: &[u8]) -> Result<u32, Problem>
 }
 
 // `bytes`, and then those of a group, `count` times over.
+#[tactic(auto, using(crate::proofs::Copies::copies_turn))]
 fn repeated(mut bytes: Vec<u8>, group: &[u8], count: u32) -> Result<Vec<u8>, Problem>
     ensures { Answers vec_items (repeated_of bytes.items group.now count) result }
 {
@@ -78,7 +77,7 @@ fn repeated(mut bytes: Vec<u8>, group: &[u8], count: u32) -> Result<Vec<u8>, Pro
 fn grouped(heap: Global, bytes: Vec<u8>, word: &[u8]) -> Result<Vec<u8>, Problem>
     ensures { Answers vec_items (group_of bytes.items word.now) result }
 {
-    let (digits, rest) = word.split_at(Part::Until(b'*').size(word));
+    let (digits, rest) = word.split_at(front(word, |character| character != b'*'));
     // A group of nothing would be repeated in vain.
     if digits.is_empty() {
         return Err(Problem::NoHexDigit);
@@ -92,9 +91,8 @@ pub fn bytes(heap: Global, text: &[u8]) -> Result<Vec<u8>, Problem>
     ensures value { Answers vec_items (bytes_of text.now) result }
     ensures spelled { ReadsBytes vec_items text.now result }
 {
-    let mut words = Words::new(text);
     let mut bytes = Vec::new(heap);
-    while let Some(word) = words.next() {
+    for word in Words::new(text) {
         bytes = grouped(heap, bytes, word)?;
     }
     Ok(bytes)

@@ -1,5 +1,5 @@
 //! Numbers as a script writes them: decimal, or hexadecimal after `0x`.
-ghost use Rattle.std.specs.Prelude.{◌≡◌};
+ghost use Rattle.std.specs.Prelude.{◌≡◌, ◌<◌, IfSome};
 ghost use Rattle.script.specs.Digits.{digit_of};
 ghost use Rattle.script.specs.Numbers.{grown_by, numeral_of, number_of};
 ghost use Rattle.script.specs.Spelled.{ReadsDecimal, ReadsHexadecimal};
@@ -7,36 +7,28 @@ ghost use Rattle.script.specs.Spelled.{ReadsDecimal, ReadsHexadecimal};
 use crate::problems::Problem;
 
 /// What a character stands for as a hexadecimal digit, in either case.
-pub(crate) fn digit(character: u8) -> Option<u8>
-    ensures { result ≡ digit_of character }
+pub(crate) fn digit(character: u8) -> Option<u32>
+    ensures value { result ≡ digit_of character }
+    ensures bound { IfSome result (λ d. d < 16) }
 {
-    match character {
-        b'0'..=b'9' => Some(character - b'0'),
-        b'a'..=b'f' => Some(character - b'a' + 10),
-        b'A'..=b'F' => Some(character - b'A' + 10),
-        _ => None,
-    }
+    char::from(character).to_digit(16)
 }
 
 // One digit more: `value` is what the digits before it spell.
-fn grown(value: u32, base: u8, character: u8) -> Result<u32, Problem>
+fn grown(value: u32, base: u32, character: u8) -> Result<u32, Problem>
     ensures { result ≡ grown_by base value (digit_of character) }
 {
-    let Some(digit) = digit(character) else {
-        return Err(Problem::NoNumber);
-    };
-    if digit >= base {
-        return Err(Problem::NoNumber);
-    }
-    let next = u64::from(value) * u64::from(base) + u64::from(digit);
-    if next > u64::from(u32::MAX) {
-        return Err(Problem::NumberTooLarge);
-    }
-    Ok(next as u32)
+    let digit = digit(character)
+        .filter(|digit| *digit < base)
+        .ok_or(Problem::NoNumber)?;
+    let next = value
+        .checked_mul(base)
+        .and_then(|scaled| scaled.checked_add(digit));
+    next.ok_or(Problem::NumberTooLarge)
 }
 
-// Digits of a base, at least one.
-fn numeral(digits: &[u8], base: u8) -> Result<u32, Problem>
+// Digits of a base, at least one. The library's `from_str_radix` would also take a sign in front, which a script has not.
+fn numeral(digits: &[u8], base: u32) -> Result<u32, Problem>
     ensures { result ≡ numeral_of base digits.now }
 {
     if digits.is_empty() {

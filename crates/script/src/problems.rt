@@ -4,10 +4,11 @@ ghost use Rattle.script.specs.Explained.{explanation};
 ghost use Rattle.script.specs.declared.problems.Problem.TheVariants.{OutOfMemory};
 
 use std::alloc::{AllocError, AllocFailed};
+use std::error::Error;
 use std::fmt;
 
 /// Why a line could not be carried out.
-#[derive(Clone, Copy)]
+#[derive(Clone, Copy, Debug)]
 pub enum Problem {
     UnknownCommand,
     OddDigits,
@@ -58,6 +59,8 @@ impl fmt::Display for Problem {
         f.write_str(self.words())
     }
 }
+
+impl Error for Problem {}
 
 impl From<AllocError> for Problem {
     ghost from_gives = { λ _ r. r ≡ OutOfMemory };

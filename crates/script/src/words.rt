@@ -1,9 +1,10 @@
 //! The words of a text: what stands between blanks. Each is handed out as a part of the text.
 ghost use Rattle.std.specs.Prelude.{◌≡◌};
 ghost use Rattle.std.specs.Option.{option_map};
-ghost use Rattle.script.specs.Words.{rest_of, first_word, after_word, words_of, listed};
+ghost use Rattle.std.specs.Iterator.{item_count};
+ghost use Rattle.script.specs.Words.{rest_of, words_of, TakesWord};
 
-use crate::parts::Part;
+use crate::parts::{blank, front};
 
 /// A text with a place in it: the words before the place have been handed out.
 #[derive(Drop)]
@@ -23,18 +24,22 @@ impl<'a> Words<'a> {
         ensures { result.now ≡ rest_of self.now.left.now }
     {
         let left = self.left;
-        let (_, rest) = left.split_at(Part::Blanks.size(left));
-        rest
+        &left[front(left, blank)..]
     }
+}
 
-    /// The next word, where there is one; the place is then after it.
-    pub fn next(&mut self) -> Option<&'a [u8]>
-        ensures word { option_map (λ x. x.now) result ≡ first_word self.old.left.now }
-        ensures after { self.new.left.now ≡ after_word self.old.left.now }
-        ensures words { words_of self.old.left.now ≡ listed (option_map (λ x. x.now) result) (words_of self.new.left.now) }
-    {
+/// The next word, where there is one; the place is then after it.
+impl<'a> Iterator for Words<'a> {
+    type Item = &'a [u8];
+
+    ghost next_gives = { λ s r t. TakesWord s.left.now (option_map (λ x. x.now) r) t.left.now };
+
+    ghost remaining = { item_count (λ s. words_of s.left.now) };
+
+    #[tactic(auto, using(crate::proofs::Splits::split_as))]
+    fn next(&mut self) -> Option<&'a [u8]> {
         let rest = self.rest();
-        let size = Part::Word.size(rest);
+        let size = front(rest, |character| !blank(character));
         let (word, left) = rest.split_at(size);
         self.left = left;
         if size == 0 { None } else { Some(word) }

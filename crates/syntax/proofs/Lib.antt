@@ -1,1 +1,1 @@
-mod HexDigits
+mod Gaps

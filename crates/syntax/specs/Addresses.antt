@@ -1,5 +1,6 @@
 -- A place in memory: [base+index*scale+displacement], or ds:displacement alone.
 use Rattle.std.specs.Prelude.{ℕ, ◌-◌, ◌^◌, Bool, true, false, cond, ◌&&◌, List, [], ◌++◌, Some, None, codes, Option, nat_lt}
+use Rattle.std.specs.Option.{is_none, unwrap_or}
 use Rattle.x86.specs.declared.registers.Register.{Register}
 use Rattle.x86.specs.declared.registers.Register.TheVariants.{Eax, Ecx, Edx, Ebx, Esp, Ebp, Esi, Edi}
 use Rattle.x86.specs.declared.registers.Scale.{Scale}
@@ -42,28 +43,18 @@ is_one Two = false
 is_one Four = false
 is_one Eight = false
 
--- an index that adds nothing
-abbrev pub is_absent : Option Register → Bool
-is_absent None = true
-is_absent (Some r) = false
-
 -- an index that is there only since ESP as a base wants a SIB byte
 abbrev pub is_implied : Option Register → Index → Bool
-is_implied b i = is_esp b && (is_absent i.register && is_one i.scale)
+is_implied b i = is_esp b && (is_none i.register && is_one i.scale)
 
 -- the index, unless it is implied
 abbrev pub visible_index_of : Option Register → Option Index → Option Index
 visible_index_of b None = None
 visible_index_of b (Some i) = cond (is_implied b i) None (Some i)
 
--- the displacement, or 0 where there is none
-abbrev pub or_zero : Option ℕ → ℕ
-or_zero None = 0
-or_zero (Some d) = d
-
 -- base, index and displacement, each where there is one; the displacement alone is an offset in DS
 abbrev pub place_text : Option Register → Option Index → Option ℕ → List ℕ
-place_text None None d = codes "ds:" ++ number_text (or_zero d)
+place_text None None d = codes "ds:" ++ number_text (unwrap_or d 0)
 place_text (Some b) None d = codes "[" ++ (register_name b ++ (offset_text d ++ codes "]"))
 place_text None (Some i) d = codes "[" ++ (index_text i ++ (offset_text d ++ codes "]"))
 place_text (Some b) (Some i) d = codes "[" ++ (register_name b ++ (codes "+" ++ (index_text i ++ (offset_text d ++ codes "]"))))

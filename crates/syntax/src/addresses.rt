@@ -1,6 +1,6 @@
 //! Places in memory.
 ghost use Rattle.std.specs.Prelude.{◌≡◌, Some};
-ghost use Rattle.syntax.specs.Addresses.{offset_text, index_name_of, index_text, visible_index_of, address_text};
+ghost use Rattle.syntax.specs.Addresses.{offset_text, index_text, visible_index_of, address_text};
 
 use crate::Intel;
 use crate::names::Named;
@@ -18,7 +18,7 @@ impl fmt::Display for Offset {
 
     fn fmt<W: fmt::Write>(&self, f: &mut fmt::Formatter<W>) -> fmt::Result {
         match self.0 {
-            None => f.write_str(""),
+            None => Ok(()),
             Some(displacement) if displacement < 1 << 31 => {
                 write!(f, "+{}", Hexadecimal(displacement))
             }
@@ -27,21 +27,13 @@ impl fmt::Display for Offset {
     }
 }
 
-fn index_name(register: Option<Register>) -> &'static str
-    ensures { result.now ≡ index_name_of register }
-{
-    match register {
-        Some(register) => register.name(),
-        None => "eiz",
-    }
-}
-
 impl fmt::Display for Intel<Index> {
     ghost output = { λ x. Some (index_text x.0) };
 
     fn fmt<W: fmt::Write>(&self, f: &mut fmt::Formatter<W>) -> fmt::Result {
-        let index = self.0;
-        write!(f, "{}*{}", index_name(index.register), index.scale.name())
+        let Index { register, scale } = self.0;
+        let name = register.map_or("eiz", |register| register.name());
+        write!(f, "{name}*{}", scale.name())
     }
 }
 

@@ -1,6 +1,6 @@
 //! Instructions and pairs.
 ghost use Rattle.std.specs.Prelude.{Some};
-ghost use Rattle.syntax.specs.Instructions.{two_operands_text, straight_text, direct_name, loose_text, decoded_text, pair_text};
+ghost use Rattle.syntax.specs.Instructions.{two_operands_text, one_register_text, straight_text, direct_name, loose_text, decoded_text, pair_text};
 
 use crate::Intel;
 use crate::mnemonics::Mnemonic;
@@ -12,7 +12,7 @@ use std::fmt::Display;
 use x86::instructions::{Decoded, Direct, Instruction, Loose, Straight};
 use x86::operands::{Operand, Source};
 use x86::pairs::Pair;
-use x86::registers::Width;
+use x86::registers::{Register, Width};
 
 /// A mnemonic with what it writes to and what it reads.
 #[derive(Clone, Copy)]
@@ -30,6 +30,19 @@ impl fmt::Display for TwoOperands {
             AtWidth(width, operand),
             AtWidth(width, source)
         )
+    }
+}
+
+/// A mnemonic with one register.
+#[derive(Clone, Copy)]
+struct OneRegister(&'static str, Register);
+
+impl fmt::Display for OneRegister {
+    ghost output = { λ x. Some (one_register_text x.0.now x.1) };
+
+    fn fmt<W: fmt::Write>(&self, f: &mut fmt::Formatter<W>) -> fmt::Result {
+        let OneRegister(name, register) = *self;
+        write!(f, "{}{}", Mnemonic(name), register.name())
     }
 }
 
@@ -56,10 +69,10 @@ impl fmt::Display for Intel<Straight> {
                     Intel(address)
                 )
             }
-            Straight::Increment(register) => write!(f, "{}{}", Mnemonic("inc"), register.name()),
-            Straight::Decrement(register) => write!(f, "{}{}", Mnemonic("dec"), register.name()),
-            Straight::Push(register) => write!(f, "{}{}", Mnemonic("push"), register.name()),
-            Straight::Pop(register) => write!(f, "{}{}", Mnemonic("pop"), register.name()),
+            Straight::Increment(register) => OneRegister("inc", register).fmt(f),
+            Straight::Decrement(register) => OneRegister("dec", register).fmt(f),
+            Straight::Push(register) => OneRegister("push", register).fmt(f),
+            Straight::Pop(register) => OneRegister("pop", register).fmt(f),
             Straight::Nop => f.write_str("nop"),
             Straight::Halt => f.write_str("hlt"),
         }
@@ -84,8 +97,8 @@ impl fmt::Display for Intel<Loose> {
 
     fn fmt<W: fmt::Write>(&self, f: &mut fmt::Formatter<W>) -> fmt::Result {
         match self.0 {
-            Loose::Jump(register) => write!(f, "{}{}", Mnemonic("jmp"), register.name()),
-            Loose::Call(register) => write!(f, "{}{}", Mnemonic("call"), register.name()),
+            Loose::Jump(register) => OneRegister("jmp", register).fmt(f),
+            Loose::Call(register) => OneRegister("call", register).fmt(f),
             Loose::Return => f.write_str("ret"),
             Loose::Interrupt(number) => {
                 write!(f, "{}{}", Mnemonic("int"), Hexadecimal(u32::from(number)))

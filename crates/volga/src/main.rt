@@ -6,26 +6,17 @@ mod files;
 mod marks;
 mod session;
 
-use anyhow::anyhow;
+use anyhow::ensure;
 use session::Session;
 use std::env;
 use std::fs::File;
 use std::io::{BufRead, BufReader, Read};
 
-// Nothing says that an input ends, so the lines are counted.
 fn run<R: Read + Drop>(rt: &HostRuntime, input: R) -> anyhow::Result<bool> {
-    let mut reader = BufReader::new(rt.alloc(), input)?;
-    let Ok(mut session) = Session::new(rt.alloc()) else {
-        return Err(anyhow!("out of memory"));
-    };
-    for number in 1..u64::MAX {
-        let mut line = Vec::new(rt.alloc());
-        if reader.read_until(b'\n', &mut line)? == 0 {
-            break;
-        }
-        let text = line.as_slice();
-        let text = text.strip_suffix(b"\n").unwrap_or(text);
-        session.carry_out(rt, number, text)?;
+    let lines = BufReader::new(rt.alloc(), input)?.split(rt.alloc(), b'\n');
+    let mut session = Session::new(rt.alloc())?;
+    for (number, line) in (1..u64::MAX).zip(lines) {
+        session.carry_out(rt, number, &line?)?;
     }
     Ok(session.went_well())
 }
@@ -35,11 +26,8 @@ fn script(rt: &HostRuntime) -> anyhow::Result<()> {
         Some(path) => run(rt, File::open(rt, path.as_str())?)?,
         None => run(rt, rt.stdin())?,
     };
-    if well {
-        Ok(())
-    } else {
-        Err(anyhow!("a line of the script could not be carried out"))
-    }
+    ensure!(well, "a line of the script could not be carried out");
+    Ok(())
 }
 
 fn main(rt: HostRuntime) -> anyhow::Result<()> {

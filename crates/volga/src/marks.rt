@@ -1,5 +1,5 @@
 //! Marks buffers.
-use script::answers::Marked;
+use script::answers::Answer;
 use script::groups::LIMIT;
 use script::problems::Problem;
 use std::alloc::Global;
@@ -15,15 +15,11 @@ fn buffer(heap: Global, size: usize, fill: u8) -> Result<Vec<u8>, Problem> {
     if size > LIMIT {
         return Err(Problem::TooManyMarks);
     }
-    match vec![in heap; fill; size] {
-        Ok(buffer) => Ok(buffer),
-        Err(_) => Err(Problem::OutOfMemory),
-    }
+    Ok(vec![in heap; fill; size]?)
 }
 
-fn front(buffer: &Vec<u8>, count: usize) -> &[u8] {
-    let bytes = buffer.as_slice();
-    &bytes[0..count.min(bytes.len())]
+fn front(buffer: &[u8], count: usize) -> &[u8] {
+    buffer.get(..count).unwrap_or(buffer)
 }
 
 impl Marks {
@@ -41,8 +37,8 @@ impl Marks {
 
     /// Prints the first `count` bytes of both.
     pub(crate) fn show(&self, rt: &HostRuntime, count: usize) -> io::Result<()> {
-        let starts = front(&self.starts, count);
-        let targets = front(&self.targets, count);
-        println!(rt; "{}", Marked { starts, targets })
+        let starts = front(self.starts.as_slice(), count);
+        let targets = front(self.targets.as_slice(), count);
+        println!(rt; "{}", Answer::Marked { starts, targets })
     }
 }

@@ -5,52 +5,73 @@ use gate::entries::EntryRow;
 use gate::passes::{Pass, gate};
 use gate::readers::Reader;
 use listing::lines::Line;
-use script::answers::{Ended, Failure, Passed, Rowed, Taken};
+use script::answers::Answer;
 use script::commands::{Command, parse};
 use script::problems::Problem;
 use std::alloc::Global;
 use std::io;
-use std::mem::replace;
 
-/// The module: none yet, bytes that have not passed, or a pass that holds them.
+/// Why a line has no answer.
+#[derive(Drop)]
+enum Fault {
+    /// The line could not be carried out.
+    Line(Problem),
+    /// The answer could not be printed.
+    Output(io::Error),
+}
+
+impl From<Problem> for Fault {
+    fn from(problem: Problem) -> Fault {
+        Fault::Line(problem)
+    }
+}
+
+impl From<io::Error> for Fault {
+    fn from(error: io::Error) -> Fault {
+        Fault::Output(error)
+    }
+}
+
+/// A module: bytes that have not passed, or a pass that holds them.
 #[derive(Drop)]
 enum Module {
-    Missing,
     Bytes(Vec<u8>),
     Passed(Pass),
 }
 
 impl Module {
     /// Lets a pass go.
-    fn into_bytes(self) -> Option<Vec<u8>> {
+    fn into_bytes(self) -> Vec<u8> {
         match self {
-            Module::Missing => None,
-            Module::Bytes(bytes) => Some(bytes),
-            Module::Passed(pass) => Some(pass.into_image()),
+            Module::Bytes(bytes) => bytes,
+            Module::Passed(pass) => pass.into_image(),
+        }
+    }
+
+    fn bytes(&self) -> &[u8] {
+        match self {
+            Module::Bytes(bytes) => bytes.as_slice(),
+            Module::Passed(pass) => pass.image(),
         }
     }
 }
 
-/// The marks buffers that the last verdict was given.
+/// The marks that the last verdict left: how many bytes of each buffer it was about, and buffers that are not those that
+/// are kept for the whole script.
 #[derive(Drop)]
-enum Judged {
-    Nothing,
-    /// The buffers that are kept for the whole script, and how many bytes of them the verdict was about.
-    Kept(usize),
-    Fresh(Marks, usize),
+struct Judged {
+    count: usize,
+    fresh: Option<Marks>,
 }
 
 #[derive(Drop)]
 pub(crate) struct Session {
-    module: Module,
+    module: Option<Module>,
     row: EntryRow,
     kept: Marks,
-    judged: Judged,
+    judged: Option<Judged>,
     well: bool,
 }
-
-/// What a line came to: answered, or why it could not be carried out.
-type Outcome = io::Result<Result<(), Problem>>;
 
 fn list(rt: &HostRuntime, module: &[u8]) -> io::Result<()> {
     let mut reader = match Reader::new(module) {
@@ -64,24 +85,16 @@ fn list(rt: &HostRuntime, module: &[u8]) -> io::Result<()> {
             None => break,
         }
     }
-    println!(rt;
-        "{}",
-        Ended {
-            length: module.len()
-        }
-    )
+    let length = module.len();
+    println!(rt; "{}", Answer::Ended { length })
 }
 
 // Judges with these buffers; the module is a pass after it, or bytes again.
 fn judge(rt: &HostRuntime, image: Vec<u8>, row: EntryRow, marks: &mut Marks) -> io::Result<Module> {
-    let mut starts = replace(&mut marks.starts, Vec::new(rt.alloc()));
-    let mut targets = replace(&mut marks.targets, Vec::new(rt.alloc()));
-    let verdict = gate(image, row, starts.as_mut_slice(), targets.as_mut_slice());
-    marks.starts = starts;
-    marks.targets = targets;
-    match verdict {
+    let Marks { starts, targets } = marks;
+    match gate(image, row, starts.as_mut_slice(), targets.as_mut_slice()) {
         Ok(pass) => {
-            println!(rt; "{}", Passed)?;
+            println!(rt; "{}", Answer::Passed)?;
             Ok(Module::Passed(pass))
         }
         Err(refused) => {
@@ -94,10 +107,10 @@ fn judge(rt: &HostRuntime, image: Vec<u8>, row: EntryRow, marks: &mut Marks) -> 
 impl Session {
     pub(crate) fn new(heap: Global) -> Result<Session, Problem> {
         Ok(Session {
-            module: Module::Missing,
+            module: None,
             row: EntryRow { base: 64, count: 0 },
             kept: Marks::new(heap, 8192, 8192, 0)?,
-            judged: Judged::Nothing,
+            judged: None,
             well: true,
         })
     }
@@ -107,90 +120,83 @@ impl Session {
         self.well
     }
 
-    fn take(&mut self, rt: &HostRuntime, module: Vec<u8>) -> io::Result<()> {
+    fn take(&mut self, rt: &HostRuntime, module: Vec<u8>) -> Result<(), Fault> {
         let length = module.len();
-        self.module = Module::Bytes(module);
-        println!(rt; "{}", Taken { length })
+        self.module = Some(Module::Bytes(module));
+        println!(rt; "{}", Answer::Taken { length })?;
+        Ok(())
     }
 
-    fn set_row(&mut self, rt: &HostRuntime, base: u32, count: u32) -> io::Result<()> {
+    // A pass was given with the row before, so it is let go.
+    fn set_row(&mut self, rt: &HostRuntime, base: u32, count: u32) -> Result<(), Fault> {
         self.row = EntryRow { base, count };
-        if let Some(bytes) = replace(&mut self.module, Module::Missing).into_bytes() {
-            self.module = Module::Bytes(bytes);
+        if let Some(module) = self.module.take() {
+            self.module = Some(Module::Bytes(module.into_bytes()));
         }
-        println!(rt; "{}", Rowed { base, count })
+        println!(rt; "{}", Answer::Rowed { base, count })?;
+        Ok(())
     }
 
-    fn judge_kept(&mut self, rt: &HostRuntime) -> Outcome {
-        let Some(image) = replace(&mut self.module, Module::Missing).into_bytes() else {
-            return Ok(Err(Problem::NoModule));
-        };
-        self.judged = Judged::Kept(image.len() / 8);
-        self.module = judge(rt, image, self.row, &mut self.kept)?;
-        Ok(Ok(()))
+    fn image(&mut self) -> Result<Vec<u8>, Problem> {
+        let module = self.module.take().ok_or(Problem::NoModule)?;
+        Ok(module.into_bytes())
     }
 
-    fn judge_fresh(&mut self, rt: &HostRuntime, starts: u32, targets: u32) -> Outcome {
-        let mut marks = match Marks::new(rt.alloc(), starts as usize, targets as usize, 0xff) {
-            Ok(marks) => marks,
-            Err(problem) => return Ok(Err(problem)),
-        };
-        let Some(image) = replace(&mut self.module, Module::Missing).into_bytes() else {
-            return Ok(Err(Problem::NoModule));
-        };
+    fn judge_kept(&mut self, rt: &HostRuntime) -> Result<(), Fault> {
+        let image = self.image()?;
         let count = image.len() / 8;
-        self.module = judge(rt, image, self.row, &mut marks)?;
-        self.judged = Judged::Fresh(marks, count);
-        Ok(Ok(()))
+        self.judged = Some(Judged { count, fresh: None });
+        self.module = Some(judge(rt, image, self.row, &mut self.kept)?);
+        Ok(())
     }
 
-    fn show_marks(&self, rt: &HostRuntime) -> Outcome {
-        match &self.judged {
-            Judged::Nothing => return Ok(Err(Problem::NoVerdict)),
-            Judged::Kept(count) => self.kept.show(rt, *count)?,
-            Judged::Fresh(marks, count) => marks.show(rt, *count)?,
-        }
-        Ok(Ok(()))
+    fn judge_fresh(&mut self, rt: &HostRuntime, starts: u32, targets: u32) -> Result<(), Fault> {
+        let mut marks = Marks::new(rt.alloc(), starts as usize, targets as usize, 0xff)?;
+        let image = self.image()?;
+        let count = image.len() / 8;
+        self.module = Some(judge(rt, image, self.row, &mut marks)?);
+        let fresh = Some(marks);
+        self.judged = Some(Judged { count, fresh });
+        Ok(())
     }
 
-    fn show_list(&self, rt: &HostRuntime) -> Outcome {
-        match &self.module {
-            Module::Missing => return Ok(Err(Problem::NoModule)),
-            Module::Bytes(bytes) => list(rt, bytes.as_slice())?,
-            Module::Passed(pass) => list(rt, pass.image())?,
-        }
-        Ok(Ok(()))
+    fn show_marks(&self, rt: &HostRuntime) -> Result<(), Fault> {
+        let judged = self.judged.as_ref().ok_or(Problem::NoVerdict)?;
+        let marks = judged.fresh.as_ref().unwrap_or(&self.kept);
+        marks.show(rt, judged.count)?;
+        Ok(())
     }
 
-    fn answer(&mut self, rt: &HostRuntime, text: &[u8]) -> Outcome {
-        let command = match parse(rt.alloc(), text) {
-            Ok(command) => command,
-            Err(problem) => return Ok(Err(problem)),
+    fn show_list(&self, rt: &HostRuntime) -> Result<(), Fault> {
+        let module = self.module.as_ref().ok_or(Problem::NoModule)?;
+        list(rt, module.bytes())?;
+        Ok(())
+    }
+
+    fn answer(&mut self, rt: &HostRuntime, text: &[u8]) -> Result<(), Fault> {
+        let Some(command) = parse(rt.alloc(), text)? else {
+            return Ok(());
         };
         match command {
-            Command::Nothing => {}
-            Command::Module(bytes) => self.take(rt, bytes)?,
-            Command::ModuleFile(path) => match load(rt, path) {
-                Ok(bytes) => self.take(rt, bytes)?,
-                Err(problem) => return Ok(Err(problem)),
-            },
-            Command::List => return self.show_list(rt),
-            Command::Row(base, count) => self.set_row(rt, base, count)?,
-            Command::Gate => return self.judge_kept(rt),
-            Command::GateFresh(starts, targets) => return self.judge_fresh(rt, starts, targets),
-            Command::Marks => return self.show_marks(rt),
+            Command::Module(bytes) => self.take(rt, bytes),
+            Command::ModuleFile(path) => self.take(rt, load(rt, path)?),
+            Command::List => self.show_list(rt),
+            Command::Row(base, count) => self.set_row(rt, base, count),
+            Command::Gate => self.judge_kept(rt),
+            Command::GateFresh(starts, targets) => self.judge_fresh(rt, starts, targets),
+            Command::Marks => self.show_marks(rt),
         }
-        Ok(Ok(()))
     }
 
     /// Carries out a line, counted from 1, and prints the answer.
     pub(crate) fn carry_out(&mut self, rt: &HostRuntime, line: u64, text: &[u8]) -> io::Result<()> {
-        match self.answer(rt, text)? {
+        match self.answer(rt, text) {
             Ok(()) => Ok(()),
-            Err(problem) => {
+            Err(Fault::Line(problem)) => {
                 self.well = false;
-                println!(rt; "{}", Failure { line, problem })
+                println!(rt; "{}", Answer::Failed { line, problem })
             }
+            Err(Fault::Output(error)) => Err(error),
         }
     }
 }

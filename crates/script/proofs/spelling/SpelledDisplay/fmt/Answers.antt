@@ -1,6 +1,8 @@
-use Rattle.std.proofs.Common.{ℕ, ◌/◌, ◌%◌, List, [], ◌∷◌, get_or, take, refl, ap, arith, take_all}
+use Rattle.std.proofs.Common.{◌≡◌, ℕ, ◌^◌, ◌<◌, false, List, [], ◌++◌, ◌+◌, ◌-◌, get_or, take, ap, ◌∙◌, arith, rules}
+use Rattle.std.specs.Fmt.{padded_integral, format_spec, digits}
 use Rattle.std.proofs.Output.{has_written_append, has_written_of_eq}
-use Rattle.script.specs.Spelled.{character, spelling}
+use Rattle.std.proofs.lemmas.Fmt.{hex_byte}
+use Rattle.script.specs.Spelled.{spelling}
 use Rattle.script.proofs.Written.{spelling_more}
 use Rattle.script.proofs.spelling.SpelledDisplay.fmt.Goals as goal
 
@@ -9,14 +11,9 @@ pub loop-byte-preserved : goal.loop-byte-preserved
 loop-byte-preserved g c plain =
     let bs : List ℕ = c.args.self.now.0.now in
     let i : ℕ = c.loop-byte.byte-index in
-    let p = c.loop-byte.invariant plain in
-    let q = c.in_ok-write_byte.ensures p.plain refl in
-    let b : List ℕ = character (get_or bs i 0 / 16) ∷ (character (get_or bs i 0 % 16) ∷ []) in
-    has_written_of_eq g.W.Write.write_str_gives c.args.f.now _ _ c.write_byte.new.f (spelling_more bs i (omega arith))
-    (has_written_append g.W.Write.write_str_gives c.args.f.now (spelling (take i bs)) c.loop-byte.f b c.write_byte.new.f p q)
-
--- all bytes
-pub returns-clause-writes : goal.returns-clause-writes
-returns-clause-writes g c plain ok =
-    has_written_of_eq g.W.Write.write_str_gives c.args.f.now _ _ c.loop-byte.f
-    (ap spelling (take_all c.loop-byte.byte-index c.args.self.now.0.now (omega arith))) (c.loop-byte.invariant plain)
+    let n : ℕ = get_or bs i 0 in
+    let small : n < 256 = omega arith in
+    let two = hex_byte false n small in
+    let e : spelling (take i bs) ++ padded_integral (format_spec 32 0 4 2 (2 ^ 64 - 1)) false [] (digits 16 false n) ≡ spelling (take (i + 1) bs) =
+    ap (λ (t : List ℕ). spelling (take i bs) ++ t) two ∙ spelling_more bs i (omega arith) in
+    has_written_of_eq _ _ _ _ _ e (has_written_append _ _ _ _ _ _ (c.loop-byte.invariant plain) (search rules))

@@ -1,5 +1,0 @@
--- The number falls with each call.
-use Rattle.syntax.proofs.numbers.+write_digits.Given as goal
-
-abbrev pub decreases-write_digits : goal.decreases-write_digits
-decreases-write_digits g l = l.n
