@@ -74,15 +74,14 @@ pub(crate) struct Session {
 }
 
 fn list(rt: &HostRuntime, module: &[u8]) -> io::Result<()> {
-    let mut reader = match Reader::new(module) {
+    let reader = match Reader::new(module) {
         Ok(reader) => reader,
         Err(refusal) => return println!(rt; "{refusal}"),
     };
-    for _element in 0..module.len() {
-        match reader.next() {
-            Some(Ok(element)) => println!(rt; "{}", Line(element))?,
-            Some(Err(refusal)) => return println!(rt; "{refusal}"),
-            None => break,
+    for element in reader.take(module.len()) {
+        match element {
+            Ok(element) => println!(rt; "{}", Line(element))?,
+            Err(refusal) => return println!(rt; "{refusal}"),
         }
     }
     let length = module.len();
