@@ -18,13 +18,9 @@ impl Paged {
         ensures { (result, paged_view self.new) ≡ put_of (paged_view self.old) address (parts datum) }
     {
         let at = address as usize;
-        match self.hold(at / 256) {
-            Some(frame) => {
-                self.write(frame, at, datum);
-                Ok(())
-            }
-            None => Err(MemoryFault::NoFreePage(address)),
-        }
+        let frame = self.hold(at / 256).ok_or(MemoryFault::NoFreePage(address))?;
+        self.write(frame, at, datum);
+        Ok(())
     }
 
     // A put of four bytes that touches two pages.
@@ -34,9 +30,8 @@ impl Paged {
         ensures { (result, paged_view self.new) ≡ put_of (paged_view self.old) address (parts (Datum.Long number)) }
     {
         let at = address as usize;
-        if !self.hold_both(at / 256) {
-            return Err(MemoryFault::NoFreePage(address));
-        }
+        self.hold_both(at / 256)
+            .ok_or(MemoryFault::NoFreePage(address))?;
         self.write_across(at, number);
         Ok(())
     }
