@@ -21,18 +21,6 @@ read_ok m a x e =
     absurd (omega arith))
     (cases_lt a m.size)
 
-read_err : (m : Meaning) (a : ℕ) (f : MemoryFault) → ◌≡◌ {A = Result ℕ MemoryFault} (Err f) (read_of m a) → (m.size ≤ a) × (f ≡ Outside a)
-read_err m a f e =
-    ⊎_elim
-    (λ (h : a < m.size).
-    let p : ◌≡◌ {A = Result ℕ MemoryFault} (Err f) (Ok (get_or m.bytes a 0)) = e ∙ cond-true _ _ _ (lt-ltb a m.size h) in
-    let z : ◌≡◌ {A = ℕ} 0 1 = cc in
-    absurd (omega arith))
-    (λ (h : m.size ≤ a).
-    let p : ◌≡◌ {A = Result ℕ MemoryFault} (Err f) (Err (Outside a)) = e ∙ cond-false _ _ _ (le-ltb a m.size h) in
-    (h, cc))
-    (cases_lt a m.size)
-
 -- how many of the bytes there are, and the answer by that
 module _ (m : Meaning) (a k : ℕ) where
   copy_ok : length (bytes_of m a k) ≡ k → copy_answer m a k ≡ Ok tt

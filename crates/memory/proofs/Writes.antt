@@ -29,11 +29,6 @@ module _ (m n : Meaning) (a i : ℕ) (bs : List ℕ) (all : Outcome) (r : Result
       → write_of n (a + 1) (drop (i + 1) bs) ≡ all
   turn_ok u s h rest e = ap (λ x. onward (x, n) (λ k. write_of k (a + 1) (drop (i + 1) bs))) (sym s) ∙ turn h rest e
 
-  pub turn_err : (f d : MemoryFault) (s : Result (Unit {0}) MemoryFault) → s ≡ Err d → d ≡ f → r ≡ Err f → i < length bs → write_of m a (drop i bs) ≡ all
-      → ◌≡◌ {A = Outcome} (r, n) (put_of m a (get_or bs i 0 ∷ [])) → ◌≡◌ {A = Outcome} (s, n) all
-  turn_err f d s p q t h rest e =
-      ap (λ x. (x, n)) (p ∙ ap Err q) ∙ (ap (λ x. onward (x, n) (λ k. write_of k (a + 1) (drop (i + 1) bs))) (sym t) ∙ turn h rest e)
-
 pub turn_inside : (m n : Meaning) (a b : ℕ) (r : Result (Unit {0}) MemoryFault) (u : Unit {0}) → Valid m → r ≡ Ok u
     → ◌≡◌ {A = Outcome} (r, n) (put_of m a (b ∷ [])) → a < 1048576
 turn_inside m n a b r u v s e =

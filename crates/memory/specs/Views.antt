@@ -1,5 +1,5 @@
 -- What a table over frames means: after a page is given a frame, and after bytes are written into a frame.
-use Rattle.std.specs.Prelude.{◌≡◌, ℕ, zero, suc, ◌+◌, ◌-◌, ◌*◌, ◌/◌, ◌%◌, ◌<◌, ◌≤◌, Bool, true, false, cond, ◌≢◌, List, [], ◌∷◌, map, length, get_or, take, set, replicate, is_some, Some, None, Option, slice_index, slice_index_or, slice_set, refl}
+use Rattle.std.specs.Prelude.{◌≡◌, ℕ, zero, suc, ◌+◌, ◌-◌, ◌*◌, ◌/◌, ◌%◌, ◌<◌, ◌≤◌, Bool, false, cond, ◌≢◌, List, [], ◌∷◌, map, length, get_or, take, set, replicate, is_some, Some, None, Option, slice_index, slice_index_or, slice_set, refl}
 use Rattle.std.proofs.Common.{sym, ap, ◌∙◌, ⊎_elim, arith}
 use Rattle.std.proofs.Math.Path.{fun_ext}
 use Rattle.std.proofs.lemmas.List.{length-set, length-map, length-take-le, length-replicate, map-set, get_or-set_same, get_or-set_other, get_or_past, ext_get_or, set-get_or, set-set}
@@ -119,15 +119,6 @@ module _ (n : ℕ) (ts : List (Option ℕ)) (xs : List (List ℕ)) (used p : ℕ
       (bytes_same n (byte_at (slice_set ts p (Some used)) (slice_set xs used ys)) (byte_at ts xs) seen_hold)
       (ap (map is_some) (take_set_at (n / 256) ts p (Some used)) ∙ map-set is_some (take (n / 256) ts) p (Some used))
       (omega (arith, length-set xs used ys, lacks_none n ts xs used p h none))
-
--- a page that has a frame is held already
-pub hold_held : (n : ℕ) (ts : List (Option ℕ)) (xs : List (List ℕ)) (used p f : ℕ) → p < n / 256 → slice_index_or ts p None ≡ Some f
-    → paged_meaning n ts xs used ≡ with_page (paged_meaning n ts xs used) p
-hold_held n ts xs used p f h at =
-    let e : is_some (slice_index_or ts p None) ≡ true = ap is_some at in
-    meaning_same (paged_meaning n ts xs used) (with_page (paged_meaning n ts xs used) p) refl refl
-    (sym (ap (set (map is_some (take (n / 256) ts)) p) (sym (held_at (n / 256) ts p h ∙ e)) ∙ set-get_or (map is_some (take (n / 256) ts)) p false))
-    (omega (arith, lacks_some n ts xs used p f h at))
 
 -- bytes are written into the frame f of page p
 module _ (n : ℕ) (ts : List (Option ℕ)) (p f : ℕ) (at : get_or ts p None ≡ Some f) (apart : Apart ts) (inside : p * 256 < n) (whole : n % 256 ≡ 0) where

@@ -18,6 +18,7 @@ fn clear(frame: &mut Frame)
     *frame = [0; 256];
 }
 
+// Each asks that its place lies in the memory. That ties the place to this memory's size, so no type of a place could have it.
 impl Paged {
     /// How many frames are free.
     pub(super) fn spare(&self) -> usize
