@@ -1,6 +1,6 @@
 -- A copy, byte by byte.
 use Rattle.std.proofs.Common.{◌≡◌, ℕ, ◌+◌, ◌-◌, ◌<◌, ◌≤◌, cond, ◌||◌, eqb, ltb, leb, List, [], ◌∷◌, ◌++◌, length, get_or, take, drop, set, Ok, Err, Result, sym, refl, ap, ◌∙◌, ⊎_elim, arith}
-use Rattle.std.proofs.lemmas.List.{append-nil, get_or_append_left, get_or-append_right, get_or-take, append_assoc, length-take-le, length-drop, take_all, drop_all, get_or-drop, set_at, take_more, drop_more}
+use Rattle.std.proofs.lemmas.List.{append-nil, get_or_append_left, get_or-append_right, get_or-take, append_assoc, length-take-le, length-drop, take_all, drop_all, get_or-drop, set-get_or, set_at, take_more, drop_more}
 use Rattle.std.proofs.lemmas.Bool.{cases_lt, cases_eq, lt-ltb, le-ltb, le-leb, lt-leb, eq-eqb, ne_eqb, or_left, or_right, or_from, cond-true, cond-false}
 use Rattle.memory.specs.Access.{read_of}
 use Rattle.memory.specs.Laws.{CopyAnswer, CopyExact, CopyEach}
@@ -19,6 +19,18 @@ read_ok m a x e =
     let p : ◌≡◌ {A = Result ℕ MemoryFault} (Ok x) (Err (Outside a)) = e ∙ cond-false _ _ _ (le-ltb a m.size h) in
     let z : ◌≡◌ {A = ℕ} 0 1 = cc in
     absurd (omega arith))
+    (cases_lt a m.size)
+
+read_err : (m : Meaning) (a : ℕ) (f : MemoryFault) → ◌≡◌ {A = Result ℕ MemoryFault} (Err f) (read_of m a) → (m.size ≤ a) × (f ≡ Outside a)
+read_err m a f e =
+    ⊎_elim
+    (λ (h : a < m.size).
+    let p : ◌≡◌ {A = Result ℕ MemoryFault} (Err f) (Ok (get_or m.bytes a 0)) = e ∙ cond-true _ _ _ (lt-ltb a m.size h) in
+    let z : ◌≡◌ {A = ℕ} 0 1 = cc in
+    absurd (omega arith))
+    (λ (h : m.size ≤ a).
+    let p : ◌≡◌ {A = Result ℕ MemoryFault} (Err f) (Err (Outside a)) = e ∙ cond-false _ _ _ (le-ltb a m.size h) in
+    (h, cc))
     (cases_lt a m.size)
 
 -- how many of the bytes there are, and the answer by that
@@ -52,16 +64,31 @@ start_more xs ys i h l =
     ∙ sym (ap (λ zs. zs ++ drop (i + 1) ys) (take_more xs i 0 (omega arith)) ∙ append_assoc (take i xs) (get_or xs i 0 ∷ []) (drop (i + 1) ys)))
 
 -- the loop: the first i bytes are in the buffer xs, which was ys, and the next is read
-pub turn_ok : (m : Meaning) (a i x : ℕ) (xs ys : List ℕ) → Valid m → i < length ys → xs ≡ take i (drop a m.bytes) ++ drop i ys → ◌≡◌ {A = Result ℕ MemoryFault} (Ok x) (read_of m (a + i))
-    → (i + 1 ≤ length (drop a m.bytes)) × (set xs i x ≡ take (i + 1) (drop a m.bytes) ++ drop (i + 1) ys) × (a + (i + 1) < 4294967296)
-turn_ok m a i x xs ys v h so r =
-    let t = read_ok m (a + i) x r in
-    let more : i + 1 ≤ length (drop a m.bytes) = rw (length-drop a m.bytes) (omega (arith, v.all_bytes, t.0)) in
-    let byte : x ≡ get_or (drop a m.bytes) i 0 = t.1 ∙ sym (get_or-drop a m.bytes i 0) in (
-      more,
-      ap (λ zs. set zs i x) so ∙ (ap (λ y. set (take i (drop a m.bytes) ++ drop i ys) i y) byte ∙ start_more (drop a m.bytes) ys i h more),
-      omega (arith, t.0, v.fit.1),
-    )
+module _ (m : Meaning) (a i : ℕ) (xs ys : List ℕ) (v : Valid m) (h : i < length ys) (so : xs ≡ take i (drop a m.bytes) ++ drop i ys) where
+  pub turn_ok : (x : ℕ) → ◌≡◌ {A = Result ℕ MemoryFault} (Ok x) (read_of m (a + i))
+      → (i + 1 ≤ length (drop a m.bytes)) × (set xs i x ≡ take (i + 1) (drop a m.bytes) ++ drop (i + 1) ys) × (a + (i + 1) < 4294967296)
+  turn_ok x r =
+      let t = read_ok m (a + i) x r in
+      let more : i + 1 ≤ length (drop a m.bytes) = rw (length-drop a m.bytes) (omega (arith, v.all_bytes, t.0)) in
+      let byte : x ≡ get_or (drop a m.bytes) i 0 = t.1 ∙ sym (get_or-drop a m.bytes i 0) in (
+        more,
+        ap (λ zs. set zs i x) so ∙ (ap (λ y. set (take i (drop a m.bytes) ++ drop i ys) i y) byte ∙ start_more (drop a m.bytes) ys i h more),
+        omega (arith, t.0, v.fit.1),
+      )
+
+  stops : m.size ≤ a + i → bytes_of m a (length ys) ≡ take i (drop a m.bytes)
+  stops l =
+      let short : length (drop a m.bytes) ≤ i = rw (length-drop a m.bytes) (omega (arith, v.all_bytes)) in
+      take_all (length ys) (drop a m.bytes) (omega arith) ∙ sym (take_all i (drop a m.bytes) short)
+
+  pub turn_err : (f d : MemoryFault) (s : Result (Unit {0}) MemoryFault) → i ≤ length (drop a m.bytes) → s ≡ Err d → d ≡ f
+      → ◌≡◌ {A = Result ℕ MemoryFault} (Err f) (read_of m (a + i)) → ◌≡◌ {A = Filling} (s, set xs i (get_or xs i 0)) (copy_of m a ys)
+  turn_err f d s far q q' r =
+      let t = read_err m (a + i) f r in
+      let count : length (bytes_of m a (length ys)) ≡ i = ap length (stops t.0) ∙ length-take-le i (drop a m.bytes) far in
+      filling s (set xs i (get_or xs i 0)) (copy_of m a ys)
+      (q ∙ (ap Err (q' ∙ t.1) ∙ sym (copy_err m a (length ys) i count h)))
+      (set-get_or xs i 0 ∙ (so ∙ (ap (λ zs. zs ++ drop i ys) (sym (stops t.0)) ∙ ap (λ j. bytes_of m a (length ys) ++ drop j ys) (sym count))))
 
 -- bytes that are as many as the buffer are all of it
 whole : (buffer xs : List ℕ) → length buffer ≤ length xs → filled buffer xs ≡ xs

@@ -37,29 +37,6 @@ impl Paged {
     }
 }
 
-impl Paged {
-    fn put_byte(&mut self, address: u32, byte: u8) -> Result<(), MemoryFault>
-        ensures { (result, paged_view self.new) ≡ put_of (paged_view self.old) address (parts (Datum.Byte byte)) }
-    {
-        if address >= self.size {
-            return Err(MemoryFault::Outside(address));
-        }
-        self.put_within(address, Datum::Byte(byte))
-    }
-
-    fn put_long(&mut self, address: u32, number: u32) -> Result<(), MemoryFault>
-        ensures { (result, paged_view self.new) ≡ put_of (paged_view self.old) address (parts (Datum.Long number)) }
-    {
-        if address as usize + 4 > self.size as usize {
-            Err(MemoryFault::Outside(address))
-        } else if address % 256 <= 252 {
-            self.put_within(address, Datum::Long(number))
-        } else {
-            self.put_across(address, number)
-        }
-    }
-}
-
 impl Memory for Paged {
     ghost meaning = { paged_view };
 
@@ -89,10 +66,15 @@ impl Memory for Paged {
         })
     }
 
+    // Inlined, so that a caller's own datum says which way a put goes.
+    #[inline(always)]
     fn put(&mut self, address: u32, datum: Datum) -> Result<(), MemoryFault> {
+        if address as usize + datum.width() > self.size as usize {
+            return Err(MemoryFault::Outside(address));
+        }
         match datum {
-            Datum::Byte(byte) => self.put_byte(address, byte),
-            Datum::Long(number) => self.put_long(address, number),
+            Datum::Long(number) if address % 256 > 252 => self.put_across(address, number),
+            _ => self.put_within(address, datum),
         }
     }
 }
