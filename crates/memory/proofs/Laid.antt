@@ -7,7 +7,7 @@ use Rattle.memory.specs.Laws.{within}
 use Rattle.memory.specs.Meaning.{Meaning, Octets}
 use Rattle.memory.specs.declared.faults.MemoryFault.{MemoryFault}
 use Rattle.memory.specs.declared.faults.MemoryFault.TheVariants.{Outside}
-use Rattle.memory.specs.Puts.{set_octets}
+use Rattle.memory.proofs.Puts.{set_octets}
 
 -- i is none of the k places from a on
 abbrev pub Off : ℕ → ℕ → ℕ → Type 0

@@ -8,7 +8,7 @@ use Rattle.memory.specs.Meaning.{Meaning}
 use Rattle.memory.specs.Holding.{BothHeld, PageHeld, with_page, with_bytes}
 use Rattle.memory.specs.declared.faults.MemoryFault.{MemoryFault}
 use Rattle.memory.specs.declared.faults.MemoryFault.TheVariants.{NoFreePage}
-use Rattle.memory.specs.Puts.{meaning_same, put_ok, put_full}
+use Rattle.memory.proofs.Puts.{meaning_same, put_ok, put_full}
 
 -- an option that stands for a refusal where it is none
 module _ {T : Type 0} (o : Option T) (e : MemoryFault) (r : Result T MemoryFault) (value : r ≡ ok_or o e) where

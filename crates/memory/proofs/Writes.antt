@@ -13,7 +13,7 @@ use Rattle.memory.specs.declared.faults.MemoryFault.TheVariants.{Outside, NoFree
 use Rattle.memory.proofs.Copies.{copy_is}
 use Rattle.memory.proofs.Grants.{ok_err, put_ways, granted}
 use Rattle.memory.proofs.Laid.{Off, on_or_off, laid_on, read_laid, within_off}
-use Rattle.memory.specs.Puts.{length_laid}
+use Rattle.memory.proofs.Puts.{length_laid}
 
 module _ (m : Meaning) (a b : ℕ) (bs : List ℕ) (r : Result (Unit {0}) MemoryFault) (n : Meaning) where
   pub write_more : ◌≡◌ {A = Outcome} (r, n) (put_of m a (b ∷ [])) → write_of m a (b ∷ bs) ≡ onward (r, n) (λ k. write_of k (a + 1) bs)

@@ -3,7 +3,7 @@ ghost use Rattle.std.specs.Prelude.{◌≡◌, ◌+◌, ◌%◌, ◌<◌, ◌≤
 ghost use Rattle.memory.specs.Access.{put_of};
 ghost use Rattle.memory.specs.Data.{parts};
 ghost use Rattle.memory.specs.PagedView.{paged_view};
-ghost use Rattle.memory.specs.Views.{paged_valid};
+ghost use Rattle.memory.specs.ValidLemmas.{paged_valid};
 
 use crate::data::Datum;
 use crate::faults::MemoryFault;

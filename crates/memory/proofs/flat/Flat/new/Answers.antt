@@ -3,7 +3,7 @@ use Rattle.std.proofs.lemmas.List.{get_or_past}
 use Rattle.std.proofs.lemmas.Bool.{cases_lt}
 use Rattle.memory.specs.Meaning.{Octets}
 use Rattle.memory.specs.Flats.{Kept}
-use Rattle.memory.specs.FlatsLemmas.{checked_kept}
+use Rattle.memory.proofs.Flats.{checked_kept}
 use Rattle.memory.proofs.flat.Flat.new.Goals as goal
 use Rattle.memory.proofs.flat.Flat.new.Goals.{then-is_err, else-is_err}
 

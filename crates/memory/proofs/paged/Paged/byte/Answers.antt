@@ -1,6 +1,6 @@
 use Rattle.std.proofs.Common.{◌/◌, ◌%◌, [], get_or, Some, None, vec_items, sym, ap, ◌∙◌, arith}
 use Rattle.std.proofs.lemmas.List.{get_or_read}
-use Rattle.memory.specs.Views.{read_at}
+use Rattle.memory.proofs.Views.{read_at}
 use Rattle.memory.proofs.paged.Paged.byte.Goals as goal
 
 pub returns-in-Some : goal.returns-in-Some

@@ -1,8 +1,8 @@
 use Rattle.std.proofs.Common.{◌+◌, ◌/◌, ◌<◌, ◌≤◌, length, Some, None, vec_items, sym, ap, ◌∙◌, arith}
 use Rattle.std.proofs.lemmas.List.{length-set, get_or-set_same}
-use Rattle.memory.specs.Blanks.{zero_octets}
-use Rattle.memory.specs.Tables.{mapped_hold, apart_hold, counted_hold, sound_hold}
-use Rattle.memory.specs.Views.{hold_same, lacks_none}
+use Rattle.memory.proofs.Blanks.{zero_octets}
+use Rattle.memory.proofs.Tables.{mapped_hold, apart_hold, counted_hold, sound_hold}
+use Rattle.memory.proofs.Views.{hold_same, lacks_none}
 use Rattle.memory.proofs.paged.Paged.hold.Goals as goal
 
 pub invariant_of-self : goal.invariant_of-self

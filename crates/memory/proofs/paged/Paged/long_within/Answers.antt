@@ -1,7 +1,7 @@
 use Rattle.std.proofs.Common.{◌/◌, ◌%◌, [], Some, None, vec_items, sym, ap, ◌∙◌, arith}
 use Rattle.std.proofs.lemmas.List.{get_or_read}
 use Rattle.memory.specs.Data.{long_at}
-use Rattle.memory.specs.Views.{long_within}
+use Rattle.memory.proofs.Views.{long_within}
 use Rattle.memory.proofs.paged.Paged.long_within.Goals as goal
 
 pub returns-in-Some : goal.returns-in-Some

@@ -1,7 +1,7 @@
 use Rattle.std.proofs.lemmas.Result.{err_from_is_err_and}
 use Rattle.memory.specs.Data.{parts}
 use Rattle.memory.specs.PagedView.{paged_view}
-use Rattle.memory.specs.Puts.{some_part}
+use Rattle.memory.proofs.Puts.{some_part}
 use Rattle.memory.specs.declared.faults.MemoryFault.TheVariants.{NoFreePage}
 use Rattle.memory.proofs.Steps.{refused, granted, within_ok, within_full}
 use Rattle.memory.proofs.paged.Paged.put_within.Goals as goal

@@ -3,7 +3,7 @@ use Rattle.std.proofs.lemmas.List.{get_or_read}
 use Rattle.memory.specs.Access.{laid}
 use Rattle.memory.specs.Data.{parts}
 use Rattle.memory.specs.Pages.{paged_meaning}
-use Rattle.memory.specs.Views.{write_same}
+use Rattle.memory.proofs.Views.{write_same}
 use Rattle.memory.proofs.paged.Paged.write.Goals as goal
 
 pub returns : goal.returns

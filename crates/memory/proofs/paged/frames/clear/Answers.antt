@@ -1,5 +1,5 @@
 use Rattle.std.proofs.Common.{ℕ}
-use Rattle.memory.specs.Blanks.{get_or_filled}
+use Rattle.memory.specs.ValidLemmas.{get_or_filled}
 use Rattle.memory.proofs.paged.frames.clear.Goals as goal
 
 pub returns-clause-zeros : goal.returns-clause-zeros

@@ -1,5 +1,5 @@
 use Rattle.std.proofs.Common.{ℕ, None, Option}
-use Rattle.memory.specs.Blanks.{get_or_filled}
+use Rattle.memory.specs.ValidLemmas.{get_or_filled}
 use Rattle.memory.proofs.paged.making.no_frames.Goals as goal
 
 pub returns-clause-none : goal.returns-clause-none

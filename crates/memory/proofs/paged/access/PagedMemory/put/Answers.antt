@@ -1,5 +1,5 @@
 use Rattle.std.proofs.Common.{sym, arith}
-use Rattle.memory.specs.Puts.{put_outside}
+use Rattle.memory.proofs.Puts.{put_outside}
 use Rattle.memory.proofs.paged.access.PagedMemory.put.Goals as goal
 
 pub returns-then-address-width : goal.returns-then-address-width

@@ -1,21 +1,11 @@
 -- What a page table keeps when a page is given the next frame.
-use Rattle.std.specs.Prelude.{◌≡◌, ℕ, zero, suc, ◌+◌, ◌<◌, false, cond, ◌≢◌, List, [], ◌∷◌, map, length, get_or, take, is_some, Some, None, Option, slice_index_or, slice_set, refl}
+use Rattle.std.specs.Prelude.{◌≡◌, ℕ, zero, suc, ◌+◌, ◌<◌, cond, ◌≢◌, List, [], ◌∷◌, length, get_or, take, is_some, Some, None, Option, slice_index_or, slice_set, refl}
 use Rattle.std.proofs.Common.{sym, ap, ◌∙◌, ⊎_elim, arith}
 use Rattle.std.proofs.lemmas.List.{length-take, get_or-set_same, get_or-set_other, get_or-take}
 use Rattle.std.proofs.lemmas.List.Sums.{sum_by-set}
-use Rattle.std.proofs.lemmas.Bool.{true≢false, cases_eq}
+use Rattle.std.proofs.lemmas.Bool.{cases_eq}
 use Rattle.memory.specs.Meaning.{Octets}
 use Rattle.memory.specs.Pages.{Mapped, Alias, Apart, Sound, framed}
-
-pub none_of : (o : Option ℕ) → is_some o ≡ false → o ≡ None
-none_of None e = refl
-none_of (Some f) e = absurd (true≢false e)
-
-pub held_at : (k : ℕ) (ts : List (Option ℕ)) (p : ℕ) → p < k → slice_index_or (map is_some (take k ts)) p false ≡ is_some (slice_index_or ts p None)
-held_at zero ts p h = absurd (omega arith)
-held_at (suc k) [] p h = refl
-held_at (suc k) (t ∷ ts) zero h = refl
-held_at (suc k) (t ∷ ts) (suc p) h = held_at k ts p (omega arith)
 
 pub take_set_at : {A : Type 0} (k : ℕ) (ts : List A) (p : ℕ) (x : A) → take k (slice_set ts p x) ≡ slice_set (take k ts) p x
 take_set_at zero ts p x = refl
