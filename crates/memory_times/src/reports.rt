@@ -29,22 +29,13 @@ impl Report for Sums {
     }
 }
 
-fn put_rate<W: Work, S: Store>(rt: &HostRuntime, store: &mut S) -> io::Result<u64> {
-    rate(rt, |round| {
-        let _ = W::put(store, round);
-    })
-}
-
-fn read_rate<W: Work, S: Store>(rt: &HostRuntime, store: &S) -> io::Result<(u64, u32)> {
-    let mut sum: u32 = 0;
-    let best = rate(rt, |_| sum = sum.wrapping_add(W::read(store).unwrap_or(0)))?;
-    Ok((best, sum))
-}
-
 impl Report for Speeds {
     fn line<W: Work, S: Store>(rt: &HostRuntime, name: &str, store: &mut S) -> io::Result<()> {
-        let put = put_rate::<W, S>(rt, store)?;
-        let (read, sum) = read_rate::<W, S>(rt, store)?;
+        let put = rate(rt, |round| {
+            let _ = W::put(store, round);
+        })?;
+        let mut sum: u32 = 0;
+        let read = rate(rt, |_| sum = sum.wrapping_add(W::read(store).unwrap_or(0)))?;
         println!(rt; "{:<16} {name:<6} {put:>6} {read:>6} {sum:>10}", W::NAME)
     }
 }
