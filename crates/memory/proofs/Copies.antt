@@ -63,18 +63,17 @@ start_more xs ys i h l =
     ∙ (set_at (take i xs) (get_or ys i 0) (drop (i + 1) ys) (get_or xs i 0) i (length-take-le i xs (omega arith))
     ∙ sym (ap (λ zs. zs ++ drop (i + 1) ys) (take_more xs i 0 (omega arith)) ∙ append_assoc (take i xs) (get_or xs i 0 ∷ []) (drop (i + 1) ys)))
 
--- the loop: the first i bytes are in the buffer xs, which was ys, and the next is read at p
-module _ (m : Meaning) (a i p : ℕ) (xs ys : List ℕ) (v : Valid m) (h : i < length ys)
-    (at : p ≡ a + i) (far : i ≤ length (drop a m.bytes)) (so : xs ≡ take i (drop a m.bytes) ++ drop i ys) where
-  pub turn_ok : (x : ℕ) → ◌≡◌ {A = Result ℕ MemoryFault} (Ok x) (read_of m p)
-      → (p + 1 ≡ a + (i + 1)) × (i + 1 ≤ length (drop a m.bytes)) × (set xs i x ≡ take (i + 1) (drop a m.bytes) ++ drop (i + 1) ys)
+-- the loop: the first i bytes are in the buffer xs, which was ys, and the next is read
+module _ (m : Meaning) (a i : ℕ) (xs ys : List ℕ) (v : Valid m) (h : i < length ys) (so : xs ≡ take i (drop a m.bytes) ++ drop i ys) where
+  pub turn_ok : (x : ℕ) → ◌≡◌ {A = Result ℕ MemoryFault} (Ok x) (read_of m (a + i))
+      → (i + 1 ≤ length (drop a m.bytes)) × (set xs i x ≡ take (i + 1) (drop a m.bytes) ++ drop (i + 1) ys) × (a + (i + 1) < 4294967296)
   turn_ok x r =
-      let t = read_ok m p x r in
+      let t = read_ok m (a + i) x r in
       let more : i + 1 ≤ length (drop a m.bytes) = rw (length-drop a m.bytes) (omega (arith, v.all_bytes, t.0)) in
-      let byte : x ≡ get_or (drop a m.bytes) i 0 = t.1 ∙ (ap (λ k. get_or m.bytes k 0) at ∙ sym (get_or-drop a m.bytes i 0)) in (
-        omega arith,
+      let byte : x ≡ get_or (drop a m.bytes) i 0 = t.1 ∙ sym (get_or-drop a m.bytes i 0) in (
         more,
         ap (λ zs. set zs i x) so ∙ (ap (λ y. set (take i (drop a m.bytes) ++ drop i ys) i y) byte ∙ start_more (drop a m.bytes) ys i h more),
+        omega (arith, t.0, v.fit.1),
       )
 
   stops : m.size ≤ a + i → bytes_of m a (length ys) ≡ take i (drop a m.bytes)
@@ -82,23 +81,14 @@ module _ (m : Meaning) (a i p : ℕ) (xs ys : List ℕ) (v : Valid m) (h : i < l
       let short : length (drop a m.bytes) ≤ i = rw (length-drop a m.bytes) (omega (arith, v.all_bytes)) in
       take_all (length ys) (drop a m.bytes) (omega arith) ∙ sym (take_all i (drop a m.bytes) short)
 
-  pub turn_err : (f d : MemoryFault) (s : Result (Unit {0}) MemoryFault) → s ≡ Err d → d ≡ f → ◌≡◌ {A = Result ℕ MemoryFault} (Err f) (read_of m p)
-      → ◌≡◌ {A = Filling} (s, set xs i (get_or xs i 0)) (copy_of m a ys)
-  turn_err f d s q q' r =
-      let t = read_err m p f r in
-      let past : m.size ≤ a + i = omega (arith, t.0) in
-      let count : length (bytes_of m a (length ys)) ≡ i = ap length (stops past) ∙ length-take-le i (drop a m.bytes) far in
+  pub turn_err : (f d : MemoryFault) (s : Result (Unit {0}) MemoryFault) → i ≤ length (drop a m.bytes) → s ≡ Err d → d ≡ f
+      → ◌≡◌ {A = Result ℕ MemoryFault} (Err f) (read_of m (a + i)) → ◌≡◌ {A = Filling} (s, set xs i (get_or xs i 0)) (copy_of m a ys)
+  turn_err f d s far q q' r =
+      let t = read_err m (a + i) f r in
+      let count : length (bytes_of m a (length ys)) ≡ i = ap length (stops t.0) ∙ length-take-le i (drop a m.bytes) far in
       filling s (set xs i (get_or xs i 0)) (copy_of m a ys)
-      (q ∙ (ap Err (q' ∙ (t.1 ∙ ap Outside at)) ∙ sym (copy_err m a (length ys) i count h)))
-      (set-get_or xs i 0 ∙ (so ∙ (ap (λ zs. zs ++ drop i ys) (sym (stops past)) ∙ ap (λ j. bytes_of m a (length ys) ++ drop j ys) (sym count))))
-
--- the end of the loop
-pub at_end : (m : Meaning) (a i : ℕ) (xs ys : List ℕ) → i ≡ length ys → i ≤ length (drop a m.bytes) → xs ≡ take i (drop a m.bytes) ++ drop i ys
-    → ◌≡◌ {A = Filling} (Ok tt, xs) (copy_of m a ys)
-at_end m a i xs ys e far so =
-    let count : length (bytes_of m a (length ys)) ≡ length ys = length-take-le (length ys) (drop a m.bytes) (omega arith) in
-    filling (Ok tt) xs (copy_of m a ys) (sym (copy_ok m a (length ys) count))
-    (so ∙ (ap (λ j. take j (drop a m.bytes) ++ drop j ys) e ∙ ap (λ j. bytes_of m a (length ys) ++ drop j ys) (sym count)))
+      (q ∙ (ap Err (q' ∙ t.1) ∙ sym (copy_err m a (length ys) i count h)))
+      (set-get_or xs i 0 ∙ (so ∙ (ap (λ zs. zs ++ drop i ys) (sym (stops t.0)) ∙ ap (λ j. bytes_of m a (length ys) ++ drop j ys) (sym count))))
 
 -- bytes that are as many as the buffer are all of it
 whole : (buffer xs : List ℕ) → length buffer ≤ length xs → filled buffer xs ≡ xs

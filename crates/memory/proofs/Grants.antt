@@ -5,7 +5,7 @@ use Rattle.memory.specs.Access.{Outcome, lacking, last_page, stored, put_of}
 use Rattle.memory.specs.Meaning.{Meaning}
 use Rattle.memory.specs.declared.faults.MemoryFault.{MemoryFault}
 use Rattle.memory.specs.declared.faults.MemoryFault.TheVariants.{Outside, NoFreePage}
-use Rattle.memory.specs.Puts.{put_ok, put_full, put_outside}
+use Rattle.memory.proofs.Puts.{put_ok, put_full, put_outside}
 
 pub ok_err : {A : Type 0} (m n : Meaning) (e : MemoryFault) → ◌≡◌ {A = Outcome} (Ok tt, m) (Err e, n) → A
 ok_err m n e q =

@@ -1,13 +1,13 @@
 -- Bytes written over bytes: what stands where after it, and in which order it may be done.
-use Rattle.std.proofs.Common.{◌≡◌, ℕ, suc, ◌+◌, ◌-◌, ◌<◌, ◌≤◌, true, false, cond, ltb, ◌⊎◌, List, [], ◌∷◌, length, get_or, set, Ok, Err, Result, sym, refl, ap, ◌∙◌, inl, inr, ⊎_elim, arith}
-use Rattle.std.proofs.lemmas.List.{length-set, get_or-set_same, get_or-set_other, set_comm}
+use Rattle.std.proofs.Common.{◌≡◌, ℕ, suc, ◌+◌, ◌-◌, ◌<◌, ◌≤◌, true, false, cond, ltb, ◌⊎◌, List, [], ◌∷◌, length, get_or, set, take, drop, ◌++◌, append_assoc, Ok, Err, Result, sym, refl, ap, ◌∙◌, inl, inr, ⊎_elim, arith}
+use Rattle.std.proofs.lemmas.List.{length-set, get_or-set_same, get_or-set_other, set_comm, take-append-drop, take_more_set, drop-set-lt}
 use Rattle.std.proofs.lemmas.Bool.{cases_eq, cases_lt, lt-ltb, le-ltb, le-leb, lt-leb, and_from, and_left, and_right, cond-true, cond-false}
 use Rattle.memory.specs.Access.{laid, read_of}
 use Rattle.memory.specs.Laws.{within}
 use Rattle.memory.specs.Meaning.{Meaning, Octets}
 use Rattle.memory.specs.declared.faults.MemoryFault.{MemoryFault}
 use Rattle.memory.specs.declared.faults.MemoryFault.TheVariants.{Outside}
-use Rattle.memory.specs.Puts.{set_octets}
+use Rattle.memory.proofs.Puts.{set_octets}
 
 -- i is none of the k places from a on
 abbrev pub Off : ℕ → ℕ → ℕ → Type 0
@@ -39,6 +39,15 @@ laid_on (b ∷ bs) xs a i h l r =
     laid_on bs (set xs a b) (a + 1) i (rw (length-set xs a b) (omega arith)) (omega arith) (omega arith)
     ∙ ap (λ k. get_or (b ∷ bs) k 0) (sym z))
     (cases_eq i a)
+
+-- the whole of it: what stands before, the bytes, and what stands behind
+pub laid_is : (bs xs : List ℕ) (a : ℕ) → a + length bs ≤ length xs → laid xs a bs ≡ take a xs ++ (bs ++ drop (a + length bs) xs)
+laid_is [] xs a h = let e : a + 0 ≡ a = omega arith in rw e (sym (take-append-drop a xs))
+laid_is (b ∷ bs) xs a h =
+    let l : a < length xs = omega arith in
+    let sum : a + 1 + length bs ≡ a + length (b ∷ bs) = omega arith in
+    laid_is bs (set xs a b) (a + 1) (rw length-set (omega arith))
+    ∙ rw (take_more_set xs a b l, drop-set-lt (a + 1 + length bs) xs a b (omega arith), sum, append_assoc (take a xs) (b ∷ []) (bs ++ drop (a + length (b ∷ bs)) xs)) refl
 
 pub laid_octets : (bs xs : List ℕ) (a : ℕ) → Octets xs → Octets bs → Octets (laid xs a bs)
 laid_octets [] xs a o p = o

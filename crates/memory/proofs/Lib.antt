@@ -9,3 +9,8 @@ pub mod Halves
 pub mod Copies
 pub mod Writes
 pub mod WriteLaws
+pub mod Puts
+pub mod Blanks
+pub mod Flats
+pub mod Tables
+pub mod Views

@@ -9,7 +9,7 @@ use Rattle.memory.specs.declared.data.Datum.{Datum}
 use Rattle.memory.specs.declared.data.Datum.TheVariants.{Byte, Long}
 use Rattle.memory.proofs.Laid.{Off, on_or_off, laid_off, laid_octets}
 use Rattle.memory.proofs.Marks.{marked, length_marked, marked_first, marked_last, marked_other, count_marked}
-use Rattle.memory.specs.Puts.{length_laid}
+use Rattle.memory.proofs.Puts.{length_laid}
 
 pub few_parts : (d : Datum) → length (parts d) ≤ 4
 few_parts (Byte b) = omega arith

@@ -15,7 +15,7 @@ use Rattle.memory.proofs.Grants.{put_ways, granted}
 use Rattle.memory.proofs.Laid.{laid_on, read_laid}
 use Rattle.memory.proofs.Marks.{marked_keeps}
 use Rattle.memory.proofs.Pages.{few_parts, none_lacking, stored_holds, stored_count, stored_valid}
-use Rattle.memory.specs.Puts.{some_part}
+use Rattle.memory.proofs.Puts.{some_part}
 use Rattle.memory.proofs.Swaps.{swap_first, swap_second}
 
 pub read_after_put : ReadAfterPut

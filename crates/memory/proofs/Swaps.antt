@@ -5,7 +5,7 @@ use Rattle.memory.specs.Meaning.{Meaning, Valid}
 use Rattle.memory.proofs.Laid.{laid_comm}
 use Rattle.memory.proofs.Marks.{count, marked, length_marked, count_marked, marked_comm}
 use Rattle.memory.proofs.Pages.{first_page, last_page_lem}
-use Rattle.memory.specs.Puts.{meaning_same, put_ok}
+use Rattle.memory.proofs.Puts.{meaning_same, put_ok}
 
 module _ (m : Meaning) (a b : ℕ) (bs cs : List ℕ) (v : Valid m)
     (some : 1 ≤ length bs) (few : length bs ≤ 4) (some' : 1 ≤ length cs) (few' : length cs ≤ 4)

@@ -13,7 +13,7 @@ use Rattle.memory.specs.declared.faults.MemoryFault.TheVariants.{Outside, NoFree
 use Rattle.memory.proofs.Copies.{copy_is}
 use Rattle.memory.proofs.Grants.{ok_err, put_ways, granted}
 use Rattle.memory.proofs.Laid.{Off, on_or_off, laid_on, read_laid, within_off}
-use Rattle.memory.specs.Puts.{length_laid}
+use Rattle.memory.proofs.Puts.{length_laid}
 
 module _ (m : Meaning) (a b : ℕ) (bs : List ℕ) (r : Result (Unit {0}) MemoryFault) (n : Meaning) where
   pub write_more : ◌≡◌ {A = Outcome} (r, n) (put_of m a (b ∷ [])) → write_of m a (b ∷ bs) ≡ onward (r, n) (λ k. write_of k (a + 1) bs)
@@ -28,11 +28,6 @@ module _ (m n : Meaning) (a i : ℕ) (bs : List ℕ) (all : Outcome) (r : Result
   pub turn_ok : (u : Unit {0}) → r ≡ Ok u → i < length bs → write_of m a (drop i bs) ≡ all → ◌≡◌ {A = Outcome} (r, n) (put_of m a (get_or bs i 0 ∷ []))
       → write_of n (a + 1) (drop (i + 1) bs) ≡ all
   turn_ok u s h rest e = ap (λ x. onward (x, n) (λ k. write_of k (a + 1) (drop (i + 1) bs))) (sym s) ∙ turn h rest e
-
-  pub turn_err : (f d : MemoryFault) (s : Result (Unit {0}) MemoryFault) → s ≡ Err d → d ≡ f → r ≡ Err f → i < length bs → write_of m a (drop i bs) ≡ all
-      → ◌≡◌ {A = Outcome} (r, n) (put_of m a (get_or bs i 0 ∷ [])) → ◌≡◌ {A = Outcome} (s, n) all
-  turn_err f d s p q t h rest e =
-      ap (λ x. (x, n)) (p ∙ ap Err q) ∙ (ap (λ x. onward (x, n) (λ k. write_of k (a + 1) (drop (i + 1) bs))) (sym t) ∙ turn h rest e)
 
 pub turn_inside : (m n : Meaning) (a b : ℕ) (r : Result (Unit {0}) MemoryFault) (u : Unit {0}) → Valid m → r ≡ Ok u
     → ◌≡◌ {A = Outcome} (r, n) (put_of m a (b ∷ [])) → a < 1048576

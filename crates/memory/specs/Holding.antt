@@ -1,5 +1,5 @@
 -- What it does to a memory's meaning to hold a page, and to write bytes into pages that are held.
-use Rattle.std.specs.Prelude.{◌≡◌, ℕ, ◌+◌, ◌-◌, ◌<◌, ◌≤◌, Bool, true, false, List, Some, None, Option, slice_index_or, slice_set}
+use Rattle.std.specs.Prelude.{◌≡◌, ℕ, ◌+◌, ◌-◌, ◌<◌, ◌≤◌, true, List, Some, None, Option, slice_index_or, slice_set}
 use Rattle.memory.specs.Access.{lacks, laid}
 use Rattle.memory.specs.Meaning.{Meaning}
 
@@ -17,6 +17,6 @@ PageHeld m p n table None = (n ≡ m) × (m.free < lacks m p)
 PageHeld m p n table (Some f) = (n ≡ with_page m p) × (lacks m p ≤ m.free) × (slice_index_or table p None ≡ Some f)
 
 -- after page p of m and the next were asked to be held, which made n of it
-abbrev pub BothHeld : Meaning → ℕ → Meaning → Bool → Type 0
-BothHeld m p n false = (n ≡ m) × (m.free < lacks m p + lacks m (p + 1))
-BothHeld m p n true = (n ≡ with_page (with_page m p) (p + 1)) × (lacks m p + lacks m (p + 1) ≤ m.free)
+abbrev pub BothHeld : Meaning → ℕ → Meaning → Option (Unit {0}) → Type 0
+BothHeld m p n None = (n ≡ m) × (m.free < lacks m p + lacks m (p + 1))
+BothHeld m p n (Some u) = (n ≡ with_page (with_page m p) (p + 1)) × (lacks m p + lacks m (p + 1) ≤ m.free)

@@ -9,8 +9,4 @@ pub mod Holding
 pub mod PagedView
 pub mod Ranges
 pub mod Laws
-pub mod FlatsLemmas
-pub mod Blanks
-pub mod Puts
-pub mod Views
-pub mod Tables
+pub mod ValidLemmas

@@ -5,7 +5,7 @@ ghost use Rattle.memory.specs.Faults.{fault_number, fault_address, fault_text, u
 use std::fmt;
 
 /// Why a read or a put is refused.
-#[derive(Clone, Copy)]
+#[derive(Clone, Copy, PartialEq, Eq, Debug)]
 pub enum MemoryFault {
     /// The access at this address leaves the memory.
     Outside(u32),
@@ -43,7 +43,7 @@ impl fmt::Display for MemoryFault {
 }
 
 /// Why no memory can be made of what was handed over.
-#[derive(Clone, Copy)]
+#[derive(Clone, Copy, PartialEq, Eq, Debug)]
 pub enum Unfit {
     /// A size is a multiple of 256 from 256 to 1,048,576.
     Size,

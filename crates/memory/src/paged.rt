@@ -11,6 +11,7 @@ pub mod making;
 pub type Frame = [u8; 256];
 
 /// The frames in use are the first ones, in the order in which pages came to be held. What the others hold plays no part.
+/// Pages name frames by number, and not by a box of each, since a memory allocates nothing.
 #[derive(Drop)]
 pub struct Paged {
     size: u32,

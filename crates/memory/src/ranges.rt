@@ -10,10 +10,9 @@ use crate::memories::Memory;
 pub fn write<M: Memory>(memory: &mut M, base: u32, bytes: &[u8]) -> Result<(), MemoryFault>
     ensures { (result, M.meaning memory.new) ≡ write_of (M.meaning memory.old) base bytes.now }
 {
-    let mut at = base;
-    for byte in bytes {
+    for (i, byte) in bytes.iter().enumerate() {
+        let at = base + i as u32;
         memory.put(at, Datum::Byte(*byte))?;
-        at += 1;
     }
     Ok(())
 }
@@ -23,10 +22,9 @@ pub fn write<M: Memory>(memory: &mut M, base: u32, bytes: &[u8]) -> Result<(), M
 pub fn copy<M: Memory>(memory: &M, base: u32, buffer: &mut [u8]) -> Result<(), MemoryFault>
     ensures { (result, buffer.new) ≡ copy_of (M.meaning memory.now) base buffer.old }
 {
-    let mut at = base;
-    for byte in buffer.iter_mut() {
+    for (i, byte) in buffer.iter_mut().enumerate() {
+        let at = base + i as u32;
         *byte = memory.read(at)?;
-        at += 1;
     }
     Ok(())
 }

@@ -1,11 +1,11 @@
 //! Both memories against the plain bytes of the model, on random reads and puts.
-use crate::accesses::{Told, told};
 use crate::made::{flat, paged};
 use crate::model::Model;
 use crate::random::Random;
 use memory::data::Datum;
+use memory::faults::MemoryFault;
 use memory::memories::Memory;
-use std::alloc::Global;
+use std::alloc::AllocError;
 use std::process::Abort;
 use std::test::Fail;
 
@@ -32,16 +32,16 @@ const TURNS: u32 = 2_000;
 
 // What is compared, and how many puts were granted, refused with 11 and refused with 12.
 #[derive(Drop)]
-struct Tally {
-    name: &'static str,
+struct Tally<'a> {
+    name: &'a str,
     size: u32,
     granted: u32,
     outside: u32,
     no_free_page: u32,
 }
 
-impl Tally {
-    fn new(name: &'static str, size: u32) -> Tally {
+impl<'a> Tally<'a> {
+    fn new(name: &'a str, size: u32) -> Self {
         Tally {
             name,
             size,
@@ -51,11 +51,11 @@ impl Tally {
         }
     }
 
-    fn count(&mut self, answer: Told<()>) {
+    fn count(&mut self, answer: Result<(), MemoryFault>) {
         let place = match answer {
             Ok(()) => &mut self.granted,
-            Err((11, _)) => &mut self.outside,
-            Err(_) => &mut self.no_free_page,
+            Err(MemoryFault::Outside(_)) => &mut self.outside,
+            Err(MemoryFault::NoFreePage(_)) => &mut self.no_free_page,
         };
         *place = place.saturating_add(1);
     }
@@ -80,128 +80,114 @@ impl Tally {
     }
 }
 
-fn same_put<M: Memory>(
-    rt: &impl Abort,
-    memory: &mut M,
-    model: &mut Model,
-    at: u32,
-    datum: Datum,
-    tally: &mut Tally,
-    turn: u32,
-) {
-    let answer = told(memory.put(at, datum));
-    tally.count(answer);
-    let wanted = model.put(at, datum);
-    assert_eq!(rt;
-        answer,
-        wanted,
-        "{}, size {}, turn {turn}: put of {} bytes at {at}",
-        tally.name,
-        tally.size,
-        datum.width()
-    );
+// A memory beside plain bytes, and what is drawn for both.
+#[derive(Drop)]
+struct Comparison<'a, 'b, R, M> {
+    rt: &'a R,
+    memory: M,
+    model: Model,
+    random: &'a mut Random,
+    tally: &'a mut Tally<'b>,
 }
 
-fn same_turn<M: Memory>(
-    rt: &impl Abort,
-    memory: &mut M,
-    model: &mut Model,
-    random: &mut Random,
-    tally: &mut Tally,
-    turn: u32,
-) {
-    let at = random.address(memory.size());
-    let value = random.draw();
-    match random.below(4) {
-        0 => {
-            let answer = told(memory.read(at));
-            assert_eq!(rt;
-                answer,
-                model.read(at),
-                "{}, size {}, turn {turn}: read at {at}",
-                tally.name,
-                tally.size
-            );
-        }
-        1 => {
-            let answer = told(memory.read_long(at));
-            assert_eq!(rt;
-                answer,
-                model.read_long(at),
-                "{}, size {}, turn {turn}: read_long at {at}",
-                tally.name,
-                tally.size
-            );
-        }
-        2 => same_put(
-            rt,
-            memory,
-            model,
-            at,
-            Datum::Byte((value & 0xff) as u8),
-            tally,
-            turn,
-        ),
-        _ => same_put(rt, memory, model, at, Datum::Long(value), tally, turn),
-    }
-}
-
-fn same_run<M: Memory>(
-    rt: &impl Abort,
-    memory: &mut M,
-    model: &mut Model,
-    random: &mut Random,
-    tally: &mut Tally,
-) {
-    for turn in 0..TURNS {
-        same_turn(rt, memory, model, random, tally, turn);
-    }
-    for at in 0..memory.size() {
+impl<R: Abort, M: Memory> Comparison<'_, '_, R, M> {
+    fn put(&mut self, turn: u32, at: u32, datum: Datum) {
+        let answer = self.memory.put(at, datum);
+        self.tally.count(answer);
+        let (rt, tally) = (self.rt, &*self.tally);
         assert_eq!(rt;
-            told(memory.read(at)),
-            model.read(at),
-            "{}, size {}: at {at} in the end",
+            answer,
+            self.model.put(at, datum),
+            "{}, size {}, turn {turn}: put of {} bytes at {at}",
+            tally.name,
+            tally.size,
+            datum.width()
+        );
+    }
+
+    fn read(&self, turn: u32, at: u32) {
+        let (rt, tally) = (self.rt, &*self.tally);
+        assert_eq!(rt;
+            self.memory.read(at),
+            self.model.read(at),
+            "{}, size {}, turn {turn}: read at {at}",
             tally.name,
             tally.size
         );
     }
-}
 
-fn flat_runs(rt: &impl Abort, heap: Global, size: u32, random: &mut Random) -> Result<(), Fail> {
-    let mut tally = Tally::new("flat", size);
-    for _ in 0..RUNS {
-        let mut memory = flat(heap, size as usize, 0x77)?;
-        let mut model = Model::new(heap, size, 0x77, true, 0)?;
-        same_run(rt, &mut memory, &mut model, random, &mut tally);
+    fn read_long(&self, turn: u32, at: u32) {
+        let (rt, tally) = (self.rt, &*self.tally);
+        assert_eq!(rt;
+            self.memory.read_long(at),
+            self.model.read_long(at),
+            "{}, size {}, turn {turn}: read_long at {at}",
+            tally.name,
+            tally.size
+        );
     }
-    tally.tells_enough(rt, false);
-    Ok(())
+
+    fn turn(&mut self, turn: u32) {
+        let at = self.random.address(self.memory.size());
+        let value = self.random.draw();
+        match self.random.below(4) {
+            0 => self.read(turn, at),
+            1 => self.read_long(turn, at),
+            2 => self.put(turn, at, Datum::Byte((value & 0xff) as u8)),
+            _ => self.put(turn, at, Datum::Long(value)),
+        }
+    }
+
+    // All turns, and then each byte.
+    fn run(&mut self) {
+        for turn in 0..TURNS {
+            self.turn(turn);
+        }
+        for at in 0..self.memory.size() {
+            self.read(TURNS, at);
+        }
+    }
 }
 
-fn paged_runs(
-    rt: &impl Abort,
-    heap: Global,
-    size: u32,
-    frames: usize,
-    run_out: bool,
-    why: &'static str,
+// Each run is over what `make` makes.
+fn runs<R, M, F>(
+    rt: &R,
     random: &mut Random,
-) -> Result<(), Fail> {
-    let mut tally = Tally::new(why, size);
+    mut tally: Tally<'_>,
+    frames_run_out: bool,
+    make: F,
+) -> Result<(), AllocError>
+where
+    R: Abort,
+    M: Memory + Drop,
+    F: Fn() -> Result<(M, Model), AllocError>,
+    requires { F.IsAlwaysCallable make }
+{
     for _ in 0..RUNS {
-        let mut memory = paged(heap, size, frames)?;
-        let mut model = Model::new(heap, size, 0, false, frames)?;
-        same_run(rt, &mut memory, &mut model, random, &mut tally);
+        let (memory, model) = make()?;
+        let mut comparison = Comparison {
+            rt,
+            memory,
+            model,
+            random,
+            tally: &mut tally,
+        };
+        comparison.run();
     }
-    tally.tells_enough(rt, run_out);
+    tally.tells_enough(rt, frames_run_out);
     Ok(())
 }
 
 #[test]
 fn flat_memory_and_plain_bytes(rt: HostRuntime) -> Result<(), Fail> {
     let mut random = Random::new(1);
-    for size in &FLAT_SIZES {
-        flat_runs(&rt, rt.alloc(), *size, &mut random)?;
+    let heap = rt.alloc();
+    for size in FLAT_SIZES {
+        let tally = Tally::new("flat", size);
+        runs(&rt, &mut random, tally, false, || {
+            let model = Model::new(heap, size, 0x77, true, 0)?;
+            Ok((flat(heap, size as usize, 0x77)?, model))
+        })?;
     }
     Ok(())
 }
@@ -209,8 +195,13 @@ fn flat_memory_and_plain_bytes(rt: HostRuntime) -> Result<(), Fail> {
 #[test]
 fn paged_memory_and_plain_bytes(rt: HostRuntime) -> Result<(), Fail> {
     let mut random = Random::new(2);
-    for (size, frames, run_out, why) in &PAGED_SIZES {
-        paged_runs(&rt, rt.alloc(), *size, *frames, *run_out, *why, &mut random)?;
+    let heap = rt.alloc();
+    for (size, frames, run_out, why) in PAGED_SIZES {
+        let tally = Tally::new(why, size);
+        runs(&rt, &mut random, tally, run_out, || {
+            let model = Model::new(heap, size, 0, false, frames)?;
+            Ok((paged(heap, size, frames)?, model))
+        })?;
     }
     Ok(())
 }

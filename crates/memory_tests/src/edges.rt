@@ -1,11 +1,9 @@
 //! Four bytes over a page's edge, and accesses at the end of a memory and past it.
-use crate::accesses::Expected::{Granted, Refused};
-use crate::accesses::{Put, puts, told};
+use crate::accesses::Put;
 use crate::made::{flat, paged};
-use memory::data::Datum;
+use crate::tested::Tested;
 use memory::data::Datum::{Byte, Long};
 use memory::memories::Memory;
-use std::alloc::Global;
 use std::process::Abort;
 use std::test::Fail;
 
@@ -19,79 +17,72 @@ const OVER_THE_EDGE: [(u32, &str); 5] = [
 
 // In a memory of 512 bytes. Where an address and a width together pass 2^32, their sum in 32 bits lies inside.
 const AT_THE_END: [Put; 12] = [
-    Put(511, Byte(9), Granted, "the last byte"),
-    Put(508, Long(0x0403_0201), Granted, "the last four bytes"),
-    Put(512, Byte(9), Refused(11), "past the end"),
-    Put(509, Long(9), Refused(11), "its last byte is past the end"),
-    Put(510, Long(9), Refused(11), "two bytes are past the end"),
-    Put(511, Long(9), Refused(11), "three bytes are past the end"),
-    Put(512, Long(9), Refused(11), "all four are past the end"),
-    Put(4_294_967_295, Byte(9), Refused(11), "the last address"),
-    Put(4_294_967_295, Long(9), Refused(11), "the sum wraps to 3"),
-    Put(4_294_967_293, Long(9), Refused(11), "the sum wraps to 1"),
-    Put(4_294_967_292, Long(9), Refused(11), "the sum wraps to 0"),
-    Put(508, Long(5), Granted, "the refusals left it usable"),
+    Put(511, Byte(9), Ok(()), "the last byte"),
+    Put(508, Long(0x0403_0201), Ok(()), "the last four bytes"),
+    Put(512, Byte(9), Err(11), "past the end"),
+    Put(509, Long(9), Err(11), "its last byte is past the end"),
+    Put(510, Long(9), Err(11), "two bytes are past the end"),
+    Put(511, Long(9), Err(11), "three bytes are past the end"),
+    Put(512, Long(9), Err(11), "all four are past the end"),
+    Put(4_294_967_295, Byte(9), Err(11), "the last address"),
+    Put(4_294_967_295, Long(9), Err(11), "the sum wraps to 3"),
+    Put(4_294_967_293, Long(9), Err(11), "the sum wraps to 1"),
+    Put(4_294_967_292, Long(9), Err(11), "the sum wraps to 0"),
+    Put(508, Long(5), Ok(()), "the refusals left it usable"),
 ];
 
-// The byte at `address` after the bytes 1, 2, 3 and 4 were put at `start`.
+const FOUR: [u8; 4] = [1, 2, 3, 4];
+
+// The byte at `address` after the four bytes were put at `start`.
 fn wanted(address: u32, start: u32, around: u8) -> u8 {
-    match address.checked_sub(start) {
-        Some(0) => 1,
-        Some(1) => 2,
-        Some(2) => 3,
-        Some(3) => 4,
-        _ => around,
-    }
+    let place = address.checked_sub(start);
+    let byte = place.and_then(|place| FOUR.get(place as usize));
+    byte.copied().unwrap_or(around)
 }
 
-// Puts four bytes into two pages, all of whose bytes are `around`.
-fn puts_four<M: Memory>(
-    rt: &impl Abort,
-    memory: &mut M,
-    start: u32,
-    around: u8,
-    name: &str,
-    why: &str,
-) {
-    let answer = told(memory.put(start, Datum::Long(0x0403_0201)));
-    assert_eq!(rt; answer, Ok(()), "{name}: {why}");
-    let answer = told(memory.read_long(start));
-    assert_eq!(rt; answer, Ok(0x0403_0201), "{name}: {why}");
-    for address in 0..512 {
-        assert_eq!(rt;
-            told(memory.read(address)),
-            Ok(wanted(address, start, around)),
-            "{name}: {why}: the byte at {address}"
-        );
+impl<R: Abort, M: Memory> Tested<'_, R, M> {
+    // Puts four bytes into two pages, all of whose bytes are `around`.
+    fn puts_four(&mut self, start: u32, around: u8, why: &str) {
+        let (rt, name) = (self.rt, self.name);
+        let number = u32::from_le_bytes(FOUR);
+        let answer = self.memory.put(start, Long(number));
+        assert_eq!(rt; answer, Ok(()), "{name}: {why}");
+        let answer = self.memory.read_long(start);
+        assert_eq!(rt; answer, Ok(number), "{name}: {why}");
+        for address in 0..512 {
+            assert_eq!(rt;
+                self.memory.read(address),
+                Ok(wanted(address, start, around)),
+                "{name}: {why}: the byte at {address}"
+            );
+        }
     }
-}
 
-fn fill<M: Memory>(rt: &impl Abort, memory: &mut M, byte: u8) {
-    for address in 0..memory.size() {
-        assert_eq!(rt; told(memory.put(address, Datum::Byte(byte))), Ok(()));
+    fn fill(&mut self, byte: u8) {
+        let rt = self.rt;
+        for address in 0..self.memory.size() {
+            assert_eq!(rt; self.memory.put(address, Byte(byte)), Ok(()));
+        }
     }
-}
-
-fn over_the_edge(rt: &impl Abort, heap: Global, start: u32, why: &str) -> Result<(), Fail> {
-    puts_four(rt, &mut flat(heap, 512, 0x77)?, start, 0x77, "flat", why);
-    puts_four(rt, &mut paged(heap, 512, 2)?, start, 0, "no page held", why);
-    let mut held = paged(heap, 512, 2)?;
-    fill(rt, &mut held, 0x77);
-    puts_four(rt, &mut held, start, 0x77, "both pages held", why);
-    Ok(())
 }
 
 #[test]
 fn four_bytes_over_the_edge(rt: HostRuntime) -> Result<(), Fail> {
-    for (start, why) in &OVER_THE_EDGE {
-        over_the_edge(&rt, rt.alloc(), *start, *why)?;
+    let heap = rt.alloc();
+    for (start, why) in OVER_THE_EDGE {
+        Tested::new(&rt, "flat", flat(heap, 512, 0x77)?).puts_four(start, 0x77, why);
+        Tested::new(&rt, "no page held", paged(heap, 512, 2)?).puts_four(start, 0, why);
+        let mut held = Tested::new(&rt, "both pages held", paged(heap, 512, 2)?);
+        held.fill(0x77);
+        held.puts_four(start, 0x77, why);
     }
     Ok(())
 }
 
 #[test]
 fn at_the_end(rt: HostRuntime) -> Result<(), Fail> {
-    puts(&rt, &mut flat(rt.alloc(), 512, 0x77)?, &AT_THE_END, "flat");
-    puts(&rt, &mut paged(rt.alloc(), 512, 2)?, &AT_THE_END, "paged");
+    let heap = rt.alloc();
+    Tested::new(&rt, "flat", flat(heap, 512, 0x77)?).puts(&AT_THE_END);
+    Tested::new(&rt, "paged", paged(heap, 512, 2)?).puts(&AT_THE_END);
     Ok(())
 }

@@ -22,3 +22,5 @@ mod numbers;
 mod random;
 #[cfg(test)]
 mod ranges;
+#[cfg(test)]
+mod tested;

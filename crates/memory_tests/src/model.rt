@@ -1,6 +1,7 @@
 //! The rules of a memory once more, in the plainest code: byte by byte.
-use crate::accesses::Told;
 use memory::data::Datum;
+use memory::faults::MemoryFault;
+use memory::faults::MemoryFault::{NoFreePage, Outside};
 use std::alloc::{AllocError, Global};
 
 /// Every byte, a mark for each page, and how many pages are free.
@@ -27,40 +28,33 @@ impl Model {
         })
     }
 
-    pub(crate) fn read(&self, at: u32) -> Told<u8> {
-        match self.bytes.get(at as usize) {
-            Some(byte) => Ok(*byte),
-            None => Err((11, at)),
-        }
+    pub(crate) fn read(&self, at: u32) -> Result<u8, MemoryFault> {
+        let byte = self.bytes.get(at as usize);
+        byte.copied().ok_or(Outside(at))
     }
 
-    pub(crate) fn read_long(&self, at: u32) -> Told<u32> {
-        let mut number = 0;
+    pub(crate) fn read_long(&self, at: u32) -> Result<u32, MemoryFault> {
         let start = at as usize;
-        for place in (start..start + 4).rev() {
-            match self.bytes.get(place) {
-                Some(byte) => number = number << 8 | u32::from(*byte),
-                None => return Err((11, at)),
-            }
-        }
-        Ok(number)
+        let bytes = self.bytes.get(start..start + 4).ok_or(Outside(at))?;
+        let number = |high: u32, byte: &u8| high << 8 | u32::from(*byte);
+        Ok(bytes.iter().rev().fold(0, number))
     }
 
-    pub(crate) fn put(&mut self, at: u32, datum: Datum) -> Told<()> {
+    pub(crate) fn put(&mut self, at: u32, datum: Datum) -> Result<(), MemoryFault> {
         match datum {
             Datum::Byte(byte) => self.put_all(at, &[byte]),
             Datum::Long(number) => self.put_all(at, &number.to_le_bytes()),
         }
     }
 
-    fn put_all(&mut self, at: u32, parts: &[u8]) -> Told<()> {
+    fn put_all(&mut self, at: u32, parts: &[u8]) -> Result<(), MemoryFault> {
         let start = at as usize;
         let end = start.saturating_add(parts.len());
         if end > self.bytes.len() {
-            return Err((11, at));
+            return Err(Outside(at));
         }
         if self.lacking(start, end) > self.free {
-            return Err((12, at));
+            return Err(NoFreePage(at));
         }
         for (place, part) in (start..end).zip(parts) {
             self.hold(place / 256);
@@ -73,14 +67,11 @@ impl Model {
 
     // How many pages with a byte in the range are not held: each is counted at its first byte there.
     fn lacking(&self, start: usize, end: usize) -> usize {
-        let mut count: usize = 0;
-        for place in start..end {
-            let is_first = place == start || place % 256 == 0;
-            if is_first && self.held.get(place / 256) == Some(&false) {
-                count = count.saturating_add(1);
-            }
-        }
-        count
+        let first = |place: &usize| *place == start || *place % 256 == 0;
+        let pages = (start..end).filter(first).map(|place| place / 256);
+        pages
+            .filter(|page| self.held.get(*page) == Some(&false))
+            .count()
     }
 
     fn hold(&mut self, page: usize) {

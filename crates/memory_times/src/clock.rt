@@ -1,6 +1,5 @@
 //! How fast a work is done: the best of many rounds, in million bytes a second.
-use crate::stores::Store;
-use crate::work::{SIZE, Work};
+use crate::work::SIZE;
 use std::io;
 use std::time::Instant;
 
@@ -12,32 +11,15 @@ fn taken(rt: &HostRuntime, start: &Instant) -> io::Result<u64> {
     Ok(u64::try_from(nanoseconds).unwrap_or(u64::MAX).max(1))
 }
 
-fn rate(nanoseconds: u64) -> u64 {
-    u64::from(SIZE) * 1_000 / nanoseconds.max(1)
-}
-
-pub(crate) fn put_rate<S: Store>(rt: &HostRuntime, work: Work, store: &mut S) -> io::Result<u64> {
+/// Each round is told its number.
+pub(crate) fn rate<F: FnMut(u32)>(rt: &HostRuntime, mut work: F) -> io::Result<u64>
+    requires { F.IsAlwaysCallable work }
+{
     let mut best = u64::MAX;
     for round in 0..ROUNDS {
         let start = Instant::now(rt)?;
-        let _ = work.put(store, round);
+        work(round);
         best = best.min(taken(rt, &start)?);
     }
-    Ok(rate(best))
-}
-
-/// With a checksum, so that no read is left out.
-pub(crate) fn read_rate<S: Store>(
-    rt: &HostRuntime,
-    work: Work,
-    store: &S,
-) -> io::Result<(u64, u32)> {
-    let mut best = u64::MAX;
-    let mut sum: u32 = 0;
-    for _ in 0..ROUNDS {
-        let start = Instant::now(rt)?;
-        sum = sum.wrapping_add(work.read(store).unwrap_or(0));
-        best = best.min(taken(rt, &start)?);
-    }
-    Ok((rate(best), sum))
+    Ok(u64::from(SIZE) * 1_000 / best.max(1))
 }

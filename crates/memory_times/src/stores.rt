@@ -51,16 +51,10 @@ impl Store for Plain {
 
     fn read_long(&self, at: u32) -> Result<u32, MemoryFault> {
         let start = at as usize;
-        if start + 4 > self.0.len() {
-            return Err(MemoryFault::Outside(at));
+        match self.0.get(start..start + 4) {
+            Some([b0, b1, b2, b3]) => Ok(u32::from_le_bytes([*b0, *b1, *b2, *b3])),
+            _ => Err(MemoryFault::Outside(at)),
         }
-        let bytes = [
-            self.0[start],
-            self.0[start + 1],
-            self.0[start + 2],
-            self.0[start + 3],
-        ];
-        Ok(u32::from_le_bytes(bytes))
     }
 
     fn put(&mut self, at: u32, byte: u8) -> Result<(), MemoryFault> {

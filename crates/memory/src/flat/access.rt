@@ -1,6 +1,6 @@
 //! Reads and puts of a flat memory.
 ghost use Rattle.memory.specs.FlatView.{flat_view};
-ghost use Rattle.memory.specs.FlatsLemmas.{flat_valid};
+ghost use Rattle.memory.specs.ValidLemmas.{flat_valid};
 
 use crate::data::Datum;
 use crate::faults::MemoryFault;

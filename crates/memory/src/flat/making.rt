@@ -5,7 +5,6 @@ ghost use Rattle.memory.specs.Flats.{flat_check, flat_made};
 
 use crate::faults::Unfit;
 use crate::flat::Flat;
-use crate::little_endian::octets;
 use crate::sizes::is_fit;
 
 impl Flat {
@@ -26,7 +25,6 @@ impl Flat {
         ensures { flat_view result ≡ flat_made bytes.items }
     {
         let mut bytes = bytes;
-        octets(bytes.as_slice());
         if Flat::check(bytes.len()).is_err() {
             bytes.clear();
         }

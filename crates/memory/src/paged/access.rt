@@ -3,7 +3,7 @@ ghost use Rattle.std.specs.Prelude.{◌≡◌, ◌+◌, ◌%◌, ◌<◌, ◌≤
 ghost use Rattle.memory.specs.Access.{put_of};
 ghost use Rattle.memory.specs.Data.{parts};
 ghost use Rattle.memory.specs.PagedView.{paged_view};
-ghost use Rattle.memory.specs.Views.{paged_valid};
+ghost use Rattle.memory.specs.ValidLemmas.{paged_valid};
 
 use crate::data::Datum;
 use crate::faults::MemoryFault;
@@ -18,13 +18,9 @@ impl Paged {
         ensures { (result, paged_view self.new) ≡ put_of (paged_view self.old) address (parts datum) }
     {
         let at = address as usize;
-        match self.hold(at / 256) {
-            Some(frame) => {
-                self.write(frame, at, datum);
-                Ok(())
-            }
-            None => Err(MemoryFault::NoFreePage(address)),
-        }
+        let frame = self.hold(at / 256).ok_or(MemoryFault::NoFreePage(address))?;
+        self.write(frame, at, datum);
+        Ok(())
     }
 
     // A put of four bytes that touches two pages.
@@ -34,34 +30,10 @@ impl Paged {
         ensures { (result, paged_view self.new) ≡ put_of (paged_view self.old) address (parts (Datum.Long number)) }
     {
         let at = address as usize;
-        if !self.hold_both(at / 256) {
-            return Err(MemoryFault::NoFreePage(address));
-        }
+        self.hold_both(at / 256)
+            .ok_or(MemoryFault::NoFreePage(address))?;
         self.write_across(at, number);
         Ok(())
-    }
-}
-
-impl Paged {
-    fn put_byte(&mut self, address: u32, byte: u8) -> Result<(), MemoryFault>
-        ensures { (result, paged_view self.new) ≡ put_of (paged_view self.old) address (parts (Datum.Byte byte)) }
-    {
-        if address >= self.size {
-            return Err(MemoryFault::Outside(address));
-        }
-        self.put_within(address, Datum::Byte(byte))
-    }
-
-    fn put_long(&mut self, address: u32, number: u32) -> Result<(), MemoryFault>
-        ensures { (result, paged_view self.new) ≡ put_of (paged_view self.old) address (parts (Datum.Long number)) }
-    {
-        if address as usize + 4 > self.size as usize {
-            Err(MemoryFault::Outside(address))
-        } else if address % 256 <= 252 {
-            self.put_within(address, Datum::Long(number))
-        } else {
-            self.put_across(address, number)
-        }
     }
 }
 
@@ -94,10 +66,15 @@ impl Memory for Paged {
         })
     }
 
+    // Inlined, so that a caller's own datum says which way a put goes.
+    #[inline(always)]
     fn put(&mut self, address: u32, datum: Datum) -> Result<(), MemoryFault> {
+        if address as usize + datum.width() > self.size as usize {
+            return Err(MemoryFault::Outside(address));
+        }
         match datum {
-            Datum::Byte(byte) => self.put_byte(address, byte),
-            Datum::Long(number) => self.put_long(address, number),
+            Datum::Long(number) if address % 256 > 252 => self.put_across(address, number),
+            _ => self.put_within(address, datum),
         }
     }
 }

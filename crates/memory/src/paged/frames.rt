@@ -18,6 +18,7 @@ fn clear(frame: &mut Frame)
     *frame = [0; 256];
 }
 
+// Each asks that its place lies in the memory. That ties the place to this memory's size, so no type of a place could have it.
 impl Paged {
     /// How many frames are free.
     pub(super) fn spare(&self) -> usize
@@ -39,7 +40,7 @@ impl Paged {
         requires { page * 256 < (paged_view self.now).size }
         ensures { result ≡ lacks (paged_view self.now) page }
     {
-        if self.frame(page).is_some() { 0 } else { 1 }
+        usize::from(self.frame(page).is_none())
     }
 
     /// The byte at an address.
@@ -112,22 +113,21 @@ impl Paged {
         requires held { holds (paged_view self.old) (at / 256) ≡ true }
         ensures { paged_view self.new ≡ with_bytes (paged_view self.old) at (parts (Datum.Byte byte)) }
     {
-        if let Some(frame) = self.frame(at / 256) {
-            self.write(frame as usize, at, Datum::Byte(byte));
-        }
+        let frame = self.frame(at / 256).unwrap();
+        self.write(frame as usize, at, Datum::Byte(byte));
     }
 
-    /// Whether a page and the next are held from now on; false, and none is, where too few frames are free.
-    pub(super) fn hold_both(&mut self, page: usize) -> bool
+    /// Holds a page and the next from now on; neither, where too few frames are free.
+    pub(super) fn hold_both(&mut self, page: usize) -> Option<()>
         requires { (page + 1) * 256 < (paged_view self.old).size }
         ensures { BothHeld (paged_view self.old) page (paged_view self.new) result }
     {
         if self.lack(page) + self.lack(page + 1) > self.spare() {
-            return false;
+            return None;
         }
-        let _first = self.hold(page);
-        let _second = self.hold(page + 1);
-        true
+        self.hold(page)?;
+        self.hold(page + 1)?;
+        Some(())
     }
 
     /// Writes four bytes that lie in two pages, which are held.

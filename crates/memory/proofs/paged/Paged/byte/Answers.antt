@@ -1,12 +1,7 @@
 use Rattle.std.proofs.Common.{◌/◌, ◌%◌, [], get_or, Some, None, vec_items, sym, ap, ◌∙◌, arith}
 use Rattle.std.proofs.lemmas.List.{get_or_read}
-use Rattle.memory.specs.Views.{read_at}
+use Rattle.memory.proofs.Views.{read_at}
 use Rattle.memory.proofs.paged.Paged.byte.Goals as goal
-
-pub index-requires : goal.index-requires
-index-requires c =
-    let s = c.args.self.now in
-    omega (arith, s.mapped (c.args.at / 256) c.in-Some.frame (sym c.frame.ensures ∙ c.in-Some.is), s.within, s.frames.ok.0)
 
 pub returns-in-Some : goal.returns-in-Some
 returns-in-Some c =

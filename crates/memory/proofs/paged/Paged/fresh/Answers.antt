@@ -1,5 +1,5 @@
 use Rattle.std.proofs.Common.{vec_items, arith}
-use Rattle.memory.specs.Views.{fresh_same}
+use Rattle.memory.proofs.Views.{fresh_same}
 use Rattle.memory.proofs.paged.Paged.fresh.Goals as goal
 
 pub returns : goal.returns

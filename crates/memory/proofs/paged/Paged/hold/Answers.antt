@@ -1,25 +1,9 @@
-use Rattle.std.proofs.Common.{◌+◌, ◌/◌, ◌<◌, ◌≤◌, length, Some, None, vec_items, sym, refl, ap, ◌∙◌, arith}
+use Rattle.std.proofs.Common.{◌+◌, ◌/◌, ◌<◌, ◌≤◌, length, Some, None, vec_items, sym, ap, ◌∙◌, arith}
 use Rattle.std.proofs.lemmas.List.{length-set, get_or-set_same}
-use Rattle.memory.specs.Blanks.{zero_octets}
-use Rattle.memory.specs.Tables.{mapped_hold, apart_hold, counted_hold, sound_hold}
-use Rattle.memory.specs.Views.{hold_held, hold_same, lacks_some, lacks_none}
+use Rattle.memory.proofs.Blanks.{zero_octets}
+use Rattle.memory.proofs.Tables.{mapped_hold, apart_hold, counted_hold, sound_hold}
+use Rattle.memory.proofs.Views.{hold_same, lacks_none}
 use Rattle.memory.proofs.paged.Paged.hold.Goals as goal
-
-pub returns-in-Some : goal.returns-in-Some
-returns-in-Some c =
-    let s = c.args.self.now in
-    let at = sym c.in-Some.ensures in
-    let p : c.args.page < s.size / 256 = omega (arith, s.fit) in (
-      hold_held s.size s.table (vec_items s.frames) s.used c.args.page c.in-Some.frame p at,
-      omega (arith, lacks_some s.size s.table (vec_items s.frames) s.used c.args.page c.in-Some.frame p at),
-      at,
-    )
-
-pub returns-then-frame-len : goal.returns-then-frame-len
-returns-then-frame-len c =
-    let s = c.args.self.now in
-    let none = sym c.frame.ensures ∙ c.in_default.is in
-    (refl, omega (arith, lacks_none s.size s.table (vec_items s.frames) s.used c.args.page (omega (arith, s.fit)) none, s.frames.ok.0))
 
 pub invariant_of-self : goal.invariant_of-self
 invariant_of-self c =

@@ -3,7 +3,7 @@ use lib.Bits.{bit_or}
 use Rattle.memory.specs.Data.{long_at}
 use Rattle.memory.specs.PagedView.{paged_view}
 use Rattle.memory.proofs.Halves.{across}
-use Rattle.memory.specs.Views.{paged_valid}
+use Rattle.memory.specs.ValidLemmas.{paged_valid}
 use Rattle.memory.proofs.paged.Paged.long_across.Goals as goal
 
 pub returns : goal.returns

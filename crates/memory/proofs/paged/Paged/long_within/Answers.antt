@@ -1,13 +1,8 @@
 use Rattle.std.proofs.Common.{◌/◌, ◌%◌, [], Some, None, vec_items, sym, ap, ◌∙◌, arith}
 use Rattle.std.proofs.lemmas.List.{get_or_read}
 use Rattle.memory.specs.Data.{long_at}
-use Rattle.memory.specs.Views.{long_within}
+use Rattle.memory.proofs.Views.{long_within}
 use Rattle.memory.proofs.paged.Paged.long_within.Goals as goal
-
-pub index-requires : goal.index-requires
-index-requires c =
-    let s = c.args.self.now in
-    omega (arith, s.mapped (c.args.at / 256) c.in-Some.frame (sym c.frame.ensures ∙ c.in-Some.is), s.within, s.frames.ok.0)
 
 pub returns-in-Some : goal.returns-in-Some
 returns-in-Some c =

@@ -3,13 +3,8 @@ use Rattle.std.proofs.lemmas.List.{get_or_read}
 use Rattle.memory.specs.Access.{laid}
 use Rattle.memory.specs.Data.{parts}
 use Rattle.memory.specs.Pages.{paged_meaning}
-use Rattle.memory.specs.Views.{write_same}
+use Rattle.memory.proofs.Views.{write_same}
 use Rattle.memory.proofs.paged.Paged.write.Goals as goal
-
-pub index_mut-requires : goal.index_mut-requires
-index_mut-requires c =
-    let s = c.args.self.now in
-    omega (arith, s.mapped (c.args.at / 256) c.args.frame c.requires.framed, s.within, s.frames.ok.0)
 
 pub returns : goal.returns
 returns c =

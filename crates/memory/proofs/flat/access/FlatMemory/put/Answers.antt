@@ -4,8 +4,8 @@ use Rattle.std.specs.declared.alloc.Global.{Global}
 use Rattle.std.proofs.lemmas.List.{with_items_is}
 use Rattle.memory.specs.Access.{laid}
 use Rattle.memory.specs.Data.{parts}
-use Rattle.memory.specs.FlatsLemmas.{flat_put, flat_put_none, laid_kept}
-use Rattle.memory.specs.Puts.{some_part, length_laid, put_outside}
+use Rattle.memory.proofs.Flats.{flat_put, flat_put_none, laid_kept}
+use Rattle.memory.proofs.Puts.{some_part, length_laid, put_outside}
 use Rattle.memory.proofs.flat.access.FlatMemory.put.Goals as goal
 
 module _ (v : Vec ℕ Global) (w : List ℕ) (a : ℕ) (bs : List ℕ) (e : w ≡ laid v.items a bs) where

@@ -1,5 +1,5 @@
 use Rattle.std.proofs.Common.{vec_items, arith}
-use Rattle.memory.specs.FlatsLemmas.{flat_read_long_none}
+use Rattle.memory.proofs.Flats.{flat_read_long_none}
 use Rattle.memory.proofs.flat.access.FlatMemory.read_long.Goals as goal
 
 pub returns-then-at-size : goal.returns-then-at-size

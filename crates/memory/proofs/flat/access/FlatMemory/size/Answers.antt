@@ -1,8 +1,8 @@
 use Rattle.std.proofs.Common.{sym, ap, ◌∙◌, arith}
 use Rattle.std.proofs.lemmas.Bool.{eqb-true}
 use Rattle.memory.specs.Meaning.{Meaning}
-use Rattle.memory.specs.Blanks.{blank_size}
-use Rattle.memory.specs.FlatsLemmas.{empty_means}
+use Rattle.memory.proofs.Blanks.{blank_size}
+use Rattle.memory.proofs.Flats.{empty_means}
 use Rattle.memory.proofs.flat.access.FlatMemory.size.Goals as goal
 
 pub returns-then-is_empty : goal.returns-then-is_empty

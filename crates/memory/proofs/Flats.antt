@@ -1,17 +1,18 @@
--- A flat memory's meaning is valid, and what a read and a put do in it.
-use Rattle.std.specs.Prelude.{◌≡◌, ℕ, zero, suc, ◌+◌, ◌/◌, ◌<◌, ◌≤◌, Bool, true, false, cond, List, [], ◌∷◌, length, replicate, is_err, Ok, Err, Result, ◌==◌, slice_index, slice_set, refl}
-use Rattle.std.proofs.Common.{sym, ap, ◌∙◌, ⊎_elim, arith}
-use Rattle.std.proofs.lemmas.List.{length-replicate, get_or-replicate, get_or_past}
-use Rattle.std.proofs.lemmas.Bool.{true≢false, eqb-true, or_cases, or_right, cases_lt}
+-- What a read and a put do in a flat memory.
+use Rattle.memory.specs.ValidLemmas.{kept_fit}
+use Rattle.std.specs.Prelude.{◌≡◌, ℕ, zero, suc, ◌+◌, ◌/◌, ◌<◌, ◌≤◌, Bool, true, false, cond, List, [], ◌∷◌, length, replicate, is_err, Ok, Err, Result, ◌==◌, slice_set, refl}
+use Rattle.std.proofs.Common.{sym, ap, ◌∙◌, arith}
+use Rattle.std.proofs.lemmas.List.{get_or-replicate}
+use Rattle.std.proofs.lemmas.Bool.{true≢false, or_right}
 use Rattle.memory.specs.Access.{Outcome, laid, lacking, last_page, stored, put_of, read_of, read_long_of}
 use Rattle.memory.specs.Flats.{Kept, flat_check, whole, flat_meaning}
-use Rattle.memory.specs.Meaning.{Valid, Fit, fits, unfit_memory}
+use Rattle.memory.specs.Meaning.{Fit, fits, unfit_memory}
 use Rattle.memory.specs.declared.faults.MemoryFault.{MemoryFault}
 use Rattle.memory.specs.declared.faults.MemoryFault.TheVariants.{NoFreePage}
 use Rattle.memory.specs.declared.faults.Unfit.{Unfit}
 use Rattle.memory.specs.declared.faults.Unfit.TheVariants.{Size}
-use Rattle.memory.specs.Blanks.{blank_valid, blank_size, unfit_read, unfit_read_long, unfit_put}
-use Rattle.memory.specs.Puts.{fit_from, length_laid, meaning_same, put_ok}
+use Rattle.memory.proofs.Blanks.{blank_size, unfit_read, unfit_read_long, unfit_put}
+use Rattle.memory.proofs.Puts.{length_laid, meaning_same, put_ok}
 
 pub empty_means : (xs : List ℕ) → length xs ≡ 0 → flat_meaning xs ≡ unfit_memory
 empty_means [] e = refl
@@ -20,31 +21,6 @@ empty_means (x ∷ xs) e = absurd (omega arith)
 pub kept_means : (xs : List ℕ) → 0 < length xs → flat_meaning xs ≡ whole xs
 kept_means [] h = absurd (omega arith)
 kept_means (x ∷ xs) h = refl
-
-pub kept_fit : (xs : List ℕ) → Kept xs → 0 < length xs → Fit (length xs)
-kept_fit xs kept h =
-    ⊎_elim
-    (λ e. absurd (omega (arith, eqb-true (length xs) 0 e)))
-    (λ e. fit_from (length xs) e)
-    (or_cases (length xs == 0) (fits (length xs)) kept)
-
-whole_valid : (xs : List ℕ) → Fit (length xs) → ((k : ℕ) → slice_index xs k < 256) → Valid (whole xs)
-whole_valid xs fit octets =
-    record {
-      fit = fit;
-      all_bytes = refl;
-      octets = octets;
-      all_pages = rw length-replicate (omega arith);
-      blank = λ k no.
-          ⊎_elim
-          (λ l. absurd (true≢false (sym (get_or-replicate (length xs / 256) (k / 256) true false (omega arith)) ∙ no)))
-          (λ l. get_or_past xs k 0 l)
-          (cases_lt k (length xs));
-    }
-
-pub flat_valid : (xs : List ℕ) → Kept xs → ((k : ℕ) → slice_index xs k < 256) → Valid (flat_meaning xs)
-flat_valid [] kept octets = blank_valid 256 0 (omega arith, omega arith, refl)
-flat_valid (x ∷ xs) kept octets = whole_valid (x ∷ xs) (kept_fit (x ∷ xs) kept (omega arith)) octets
 
 set_replicate : (n p : ℕ) → slice_set (replicate n true) p true ≡ replicate n true
 set_replicate zero p = refl

@@ -1,42 +1,17 @@
 -- What a page table keeps when a page is given the next frame.
-use Rattle.std.specs.Prelude.{◌≡◌, ℕ, zero, suc, ◌+◌, ◌<◌, false, cond, ◌≢◌, List, [], ◌∷◌, map, length, get_or, take, replicate, is_some, Some, None, Option, slice_index_or, slice_set, refl}
+use Rattle.std.specs.Prelude.{◌≡◌, ℕ, zero, suc, ◌+◌, ◌<◌, cond, ◌≢◌, List, [], ◌∷◌, length, get_or, take, is_some, Some, None, Option, slice_index_or, slice_set, refl}
 use Rattle.std.proofs.Common.{sym, ap, ◌∙◌, ⊎_elim, arith}
-use Rattle.std.proofs.lemmas.List.{length-take, get_or-set_same, get_or-set_other, get_or_read}
-use Rattle.std.proofs.lemmas.List.Sums.{sum_by-set, sum_by-cons}
-use Rattle.std.proofs.lemmas.Bool.{true≢false, cases_eq}
+use Rattle.std.proofs.lemmas.List.{length-take, get_or-set_same, get_or-set_other, get_or-take}
+use Rattle.std.proofs.lemmas.List.Sums.{sum_by-set}
+use Rattle.std.proofs.lemmas.Bool.{cases_eq}
 use Rattle.memory.specs.Meaning.{Octets}
 use Rattle.memory.specs.Pages.{Mapped, Alias, Apart, Sound, framed}
-
--- an entry as `table[i]` reads it
-pub entry_is : (ts : List (Option ℕ)) (i : ℕ) (x o : Option ℕ) → i < length ts → x ≡ slice_index_or ts i x → x ≡ o → slice_index_or ts i None ≡ o
-entry_is ts i x o h e q = sym (get_or_read ts i x h e None) ∙ q
-
-pub none_of : (o : Option ℕ) → is_some o ≡ false → o ≡ None
-none_of None e = refl
-none_of (Some f) e = absurd (true≢false e)
-
-pub held_at : (k : ℕ) (ts : List (Option ℕ)) (p : ℕ) → p < k → slice_index_or (map is_some (take k ts)) p false ≡ is_some (slice_index_or ts p None)
-held_at zero ts p h = absurd (omega arith)
-held_at (suc k) [] p h = refl
-held_at (suc k) (t ∷ ts) zero h = refl
-held_at (suc k) (t ∷ ts) (suc p) h = held_at k ts p (omega arith)
 
 pub take_set_at : {A : Type 0} (k : ℕ) (ts : List A) (p : ℕ) (x : A) → take k (slice_set ts p x) ≡ slice_set (take k ts) p x
 take_set_at zero ts p x = refl
 take_set_at (suc k) [] p x = refl
 take_set_at (suc k) (t ∷ ts) zero x = refl
 take_set_at (suc k) (t ∷ ts) (suc p) x = ap (λ l. t ∷ l) (take_set_at k ts p x)
-
-pub framed_none_of : (k n : ℕ) → framed (take k (replicate n None)) ≡ 0
-framed_none_of zero n = refl
-framed_none_of (suc k) zero = refl
-framed_none_of (suc k) (suc n) = sum_by-cons (λ o. cond (is_some o) 1 0) None (take k (replicate n None)) ∙ ap (λ x. 0 + x) (framed_none_of k n)
-
-get_d_front : (k : ℕ) (ts : List (Option ℕ)) (p : ℕ) → p < k → slice_index_or (take k ts) p None ≡ slice_index_or ts p None
-get_d_front zero ts p h = absurd (omega arith)
-get_d_front (suc k) [] p h = refl
-get_d_front (suc k) (t ∷ ts) zero h = refl
-get_d_front (suc k) (t ∷ ts) (suc p) h = get_d_front k ts p (omega arith)
 
 fresh : (o : Option ℕ) (used : ℕ) → ((f : ℕ) → o ≡ Some f → f < used) → Alias (Some used) o → ⊥
 fresh None used m e = e
@@ -45,12 +20,6 @@ fresh (Some g) used m e = let l : g < used = m g refl in omega arith
 fresh_too : (o : Option ℕ) (used : ℕ) → ((f : ℕ) → o ≡ Some f → f < used) → Alias o (Some used) → ⊥
 fresh_too None used m e = e
 fresh_too (Some g) used m e = let l : g < used = m g refl in omega arith
-
-pub none_mapped : (ts : List (Option ℕ)) → ((p : ℕ) → slice_index_or ts p None ≡ None) → Mapped ts 0
-none_mapped ts none p f e = absurd (true≢false (ap is_some (sym e ∙ none p)))
-
-pub none_apart : (ts : List (Option ℕ)) → ((p : ℕ) → slice_index_or ts p None ≡ None) → Apart ts
-none_apart ts none p q e = absurd (rw (none p) at e)
 
 -- page p has no frame, and gets the frame `used`
 module _ (ts : List (Option ℕ)) (used p : ℕ) (h : p < length ts) (none : get_or ts p None ≡ None) where
@@ -83,18 +52,11 @@ module _ (ts : List (Option ℕ)) (used p : ℕ) (h : p < length ts) (none : get
   pub counted_hold : (k : ℕ) → p < k → framed (take k (slice_set ts p (Some used))) ≡ framed (take k ts) + 1
   counted_hold k l =
       let one = sum_by-set (λ o. cond (is_some o) 1 0) (take k ts) p (Some used) None (omega (arith, length-take k ts)) in
-      let zip : ◌≡◌ {A = ℕ} (cond (is_some (slice_index_or (take k ts) p None)) 1 0) 0 = ap (λ o. cond {A = ℕ} (is_some o) 1 0) (get_d_front k ts p l ∙ none) in
+      let zip : ◌≡◌ {A = ℕ} (cond (is_some (slice_index_or (take k ts) p None)) 1 0) 0 = ap (λ o. cond {A = ℕ} (is_some o) 1 0) (get_or-take k ts p None l ∙ none) in
       ap framed (take_set_at k ts p (Some used)) ∙ omega arith
 
 -- frame f is exchanged for bytes
 module _ (xs : List (List ℕ)) (ys : List ℕ) (whole : length ys ≡ 256) (octets : Octets ys) where
-  pub sound_write : (used f : ℕ) → f < length xs → Sound xs used → Sound (slice_set xs f ys) used
-  sound_write used f l sound g h =
-      ⊎_elim
-      (λ (e : g ≡ f). rw (e, get_or-set_same xs f ys [] l) (whole, octets))
-      (λ (ne : g ≡ f → ⊥). rw (get_or-set_other xs f g ys [] ne) (sound g h))
-      (cases_eq g f)
-
   pub sound_hold : (used : ℕ) → used < length xs → Sound xs used → Sound (slice_set xs used ys) (used + 1)
   sound_hold used l sound g h =
       ⊎_elim

@@ -1,22 +1,21 @@
 -- What a table over frames means: after a page is given a frame, and after bytes are written into a frame.
-use Rattle.std.specs.Prelude.{◌≡◌, ℕ, zero, suc, ◌+◌, ◌-◌, ◌*◌, ◌/◌, ◌%◌, ◌<◌, ◌≤◌, Bool, true, false, cond, ◌≢◌, List, [], ◌∷◌, map, length, get_or, take, set, replicate, is_some, Some, None, Option, slice_index, slice_index_or, slice_set, refl}
+use Rattle.memory.specs.ValidLemmas.{seen_at}
+use Rattle.std.specs.Prelude.{◌≡◌, ℕ, zero, suc, ◌+◌, ◌-◌, ◌*◌, ◌/◌, ◌%◌, ◌<◌, ◌≤◌, Bool, false, cond, ◌≢◌, List, [], ◌∷◌, map, length, get_or, take, set, replicate, is_some, Some, None, Option, slice_index, slice_index_or, slice_set, refl}
 use Rattle.std.proofs.Common.{sym, ap, ◌∙◌, ⊎_elim, arith}
 use Rattle.std.proofs.Math.Path.{fun_ext}
-use Rattle.std.proofs.lemmas.List.{length-set, length-map, length-take-le, length-replicate, map-set, get_or-set_same, get_or-set_other, get_or_past, ext_get_or, set-get_or, set-set}
-use Rattle.std.proofs.lemmas.Bool.{cases_lt, cases_eq}
-use Rattle.std.proofs.lemmas.List.FromFn.{get_or-map-range_with_len, length-map-range_with_len}
+use Rattle.std.proofs.lemmas.List.{length-set, length-map, length-take-le, length-replicate, map-set, get_or-set_same, get_or-set_other, ext_get_or, set-get_or, set-set}
+use Rattle.std.proofs.lemmas.Bool.{cases_eq}
+use Rattle.std.proofs.lemmas.List.FromFn.{length-map-range_with_len}
 use Rattle.std.specs.List.{range_with_len}
 use Rattle.memory.specs.Access.{lacks, laid}
 use Rattle.memory.specs.Data.{long_at}
-use Rattle.memory.specs.Meaning.{Valid, Fit, blank_memory}
+use Rattle.memory.specs.Meaning.{blank_memory}
 use Rattle.memory.specs.Holding.{with_page, with_bytes}
-use Rattle.memory.specs.Pages.{cell, byte_at, paged_meaning, Mapped, Apart, Sound}
-use Rattle.memory.specs.Blanks.{get_or_filled}
-use Rattle.memory.specs.Puts.{meaning_same}
-use Rattle.memory.specs.Tables.{held_at, none_of, take_set_at}
-
-pub seen_at : (n : ℕ) (ts : List (Option ℕ)) (xs : List (List ℕ)) (a : ℕ) → a < n → slice_index (map (byte_at ts xs) (range_with_len 0 n)) a ≡ byte_at ts xs a
-seen_at n ts xs a h = get_or-map-range_with_len (byte_at ts xs) 0 n a a 0 h (omega arith)
+use Rattle.memory.specs.Pages.{cell, byte_at, paged_meaning, Mapped, Apart}
+use Rattle.memory.specs.ValidLemmas.{get_or_filled}
+use Rattle.memory.proofs.Puts.{meaning_same}
+use Rattle.memory.specs.ValidLemmas.{held_at}
+use Rattle.memory.proofs.Tables.{take_set_at}
 
 bytes_same : (n : ℕ) (f g : ℕ → ℕ) → ((k : ℕ) → f k ≡ g k) → map f (range_with_len 0 n) ≡ map g (range_with_len 0 n)
 bytes_same n f g e = ap (λ (h : ℕ → ℕ). map h (range_with_len 0 n)) (fun_ext e)
@@ -29,32 +28,6 @@ lacks_some n ts xs u p f h at = lacks_at n ts xs u p h ∙ ap (λ o. cond {A = �
 
 pub lacks_none : (n : ℕ) (ts : List (Option ℕ)) (xs : List (List ℕ)) (u p : ℕ) → p < n / 256 → slice_index_or ts p None ≡ None → lacks (paged_meaning n ts xs u) p ≡ 1
 lacks_none n ts xs u p h at = lacks_at n ts xs u p h ∙ ap (λ o. cond {A = ℕ} (is_some o) 0 1) at
-
-cell_octets : (xs : List (List ℕ)) (o : Option ℕ) (i used : ℕ) → ((f : ℕ) → o ≡ Some f → f < used) → Sound xs used → cell xs o i < 256
-cell_octets xs None i used m sound = omega arith
-cell_octets xs (Some f) i used m sound = (sound f (m f refl)).1 i
-
-pub paged_valid : (n : ℕ) (ts : List (Option ℕ)) (xs : List (List ℕ)) (used : ℕ) → Fit n → length ts ≡ 4096 → Mapped ts used → Sound xs used
-    → Valid (paged_meaning n ts xs used)
-paged_valid n ts xs used fit pages mapped sound =
-    record {
-      fit = fit;
-      all_bytes = length-map-range_with_len (byte_at ts xs) 0 n;
-      octets = λ k.
-          ⊎_elim
-          (λ (l : k < n). rw (seen_at n ts xs k l) (cell_octets xs (slice_index_or ts (k / 256) None) (k % 256) used (mapped (k / 256)) sound))
-          (λ (l : n ≤ k). rw (get_or_past (map (byte_at ts xs) (range_with_len 0 n)) k 0 (rw length-map-range_with_len l)) (omega arith))
-          (cases_lt k n);
-      all_pages =
-          let k : length (map is_some (take (n / 256) ts)) ≡ n / 256 = length-map (take (n / 256) ts) is_some ∙ length-take-le (n / 256) ts (omega arith) in
-          omega arith;
-      blank = λ k off.
-          ⊎_elim
-          (λ (l : k < n).
-          seen_at n ts xs k l ∙ ap (λ o. cell xs o (k % 256)) (none_of (slice_index_or ts (k / 256) None) (sym (held_at (n / 256) ts (k / 256) (omega arith)) ∙ off)))
-          (λ (l : n ≤ k). get_or_past (map (byte_at ts xs) (range_with_len 0 n)) k 0 (rw length-map-range_with_len l))
-          (cases_lt k n);
-    }
 
 -- a table without frames
 all_zero : (a m : ℕ) → map {B = ℕ} (λ (_ : ℕ). 0) (range_with_len a m) ≡ replicate m 0
@@ -119,15 +92,6 @@ module _ (n : ℕ) (ts : List (Option ℕ)) (xs : List (List ℕ)) (used p : ℕ
       (bytes_same n (byte_at (slice_set ts p (Some used)) (slice_set xs used ys)) (byte_at ts xs) seen_hold)
       (ap (map is_some) (take_set_at (n / 256) ts p (Some used)) ∙ map-set is_some (take (n / 256) ts) p (Some used))
       (omega (arith, length-set xs used ys, lacks_none n ts xs used p h none))
-
--- a page that has a frame is held already
-pub hold_held : (n : ℕ) (ts : List (Option ℕ)) (xs : List (List ℕ)) (used p f : ℕ) → p < n / 256 → slice_index_or ts p None ≡ Some f
-    → paged_meaning n ts xs used ≡ with_page (paged_meaning n ts xs used) p
-hold_held n ts xs used p f h at =
-    let e : is_some (slice_index_or ts p None) ≡ true = ap is_some at in
-    meaning_same (paged_meaning n ts xs used) (with_page (paged_meaning n ts xs used) p) refl refl
-    (sym (ap (set (map is_some (take (n / 256) ts)) p) (sym (held_at (n / 256) ts p h ∙ e)) ∙ set-get_or (map is_some (take (n / 256) ts)) p false))
-    (omega (arith, lacks_some n ts xs used p f h at))
 
 -- bytes are written into the frame f of page p
 module _ (n : ℕ) (ts : List (Option ℕ)) (p f : ℕ) (at : get_or ts p None ≡ Some f) (apart : Apart ts) (inside : p * 256 < n) (whole : n % 256 ≡ 0) where

@@ -1,20 +1,14 @@
 -- The three ways of a put, and when two meanings are the same.
-use Rattle.std.specs.Prelude.{◌≡◌, ℕ, ◌+◌, ◌/◌, ◌%◌, ◌<◌, ◌≤◌, Bool, true, List, [], ◌∷◌, length, Ok, Err, slice_set, refl}
+use Rattle.std.specs.Prelude.{◌≡◌, ℕ, ◌+◌, ◌/◌, ◌<◌, ◌≤◌, Bool, List, [], ◌∷◌, length, Ok, Err, slice_set, refl}
 use Rattle.std.proofs.Common.{ap, ◌∙◌, ⊎_elim, arith}
 use Rattle.std.proofs.lemmas.List.{length-set, get_or-set_same, get_or-set_other, set_past}
-use Rattle.std.proofs.lemmas.Bool.{cases_eq, cases_lt, le-ltb, lt-ltb, and_parts, leb-true, eqb-true, cond-false, cond-true}
+use Rattle.std.proofs.lemmas.Bool.{cases_eq, cases_lt, le-ltb, lt-ltb, cond-false, cond-true}
 use Rattle.memory.specs.Access.{Outcome, laid, lacking, last_page, stored, put_of}
 use Rattle.memory.specs.Data.{parts}
-use Rattle.memory.specs.Meaning.{Meaning, Fit, Octets, fits}
+use Rattle.memory.specs.Meaning.{Meaning, Octets}
 use Rattle.memory.specs.declared.data.Datum.{Datum}
 use Rattle.memory.specs.declared.data.Datum.TheVariants.{Byte, Long}
 use Rattle.memory.specs.declared.faults.MemoryFault.TheVariants.{Outside, NoFreePage}
-
-pub fit_from : (n : ℕ) → fits n ≡ true → Fit n
-fit_from n e =
-    let p = and_parts _ _ e in
-    let q = and_parts _ _ p.1 in
-    (leb-true 256 n p.0, leb-true n 1048576 q.0, eqb-true (n % 256) 0 q.1)
 
 pub length_laid : (bs xs : List ℕ) (a : ℕ) → length (laid xs a bs) ≡ length xs
 length_laid [] xs a = refl

@@ -1,19 +1,14 @@
 -- A memory with no page held.
-use Rattle.std.specs.Prelude.{◌≡◌, ℕ, zero, suc, ◌+◌, ◌/◌, ◌<◌, ◌≤◌, false, List, length, replicate, Ok, Err, Result, slice_index, slice_index_or, refl}
+use Rattle.memory.specs.ValidLemmas.{get_or_filled}
+use Rattle.std.specs.Prelude.{◌≡◌, ℕ, ◌+◌, ◌/◌, ◌<◌, ◌≤◌, false, List, length, Ok, Err, Result, slice_index, refl}
 use Rattle.std.proofs.Common.{sym, ap, ◌∙◌, arith}
-use Rattle.std.proofs.lemmas.List.{length-replicate}
 use Rattle.std.proofs.lemmas.Bool.{lt-ltb, le-ltb, cond-true, cond-false}
 use Rattle.memory.specs.Access.{Outcome, put_of, read_of, read_long_of}
 use Rattle.memory.specs.Data.{long_at}
-use Rattle.memory.specs.Meaning.{Valid, Fit, Octets, holds, blank_memory, unfit_memory}
+use Rattle.memory.specs.Meaning.{Octets, holds, blank_memory, unfit_memory}
 use Rattle.memory.specs.declared.faults.MemoryFault.{MemoryFault}
 use Rattle.memory.specs.declared.faults.MemoryFault.TheVariants.{NoFreePage}
-use Rattle.memory.specs.Puts.{put_full}
-
-pub get_or_filled : {A : Type 0} (n k : ℕ) (d : A) → slice_index_or (replicate n d) k d ≡ d
-get_or_filled zero k d = refl
-get_or_filled (suc n) zero d = refl
-get_or_filled (suc n) (suc k) d = get_or_filled n k d
+use Rattle.memory.proofs.Puts.{put_full}
 
 pub blank_size : (n k : ℕ) → (blank_memory n k).size ≡ n
 unfolding blank_memory
@@ -30,17 +25,6 @@ blank_byte n k a = get_or_filled n a 0
 pub blank_page : (n k p : ℕ) → holds (blank_memory n k) p ≡ false
 unfolding blank_memory
 blank_page n k p = get_or_filled (n / 256) p false
-
-pub blank_valid : (n k : ℕ) → Fit n → Valid (blank_memory n k)
-unfolding blank_memory
-blank_valid n k h =
-    record {
-      fit = h;
-      all_bytes = length-replicate n 0;
-      octets = λ i. rw (get_or_filled {A = ℕ} n i 0) (omega arith);
-      all_pages = rw length-replicate (omega arith);
-      blank = λ i no. get_or_filled {A = ℕ} n i 0;
-    }
 
 pub unfit_read : (a : ℕ) → a < 256 → ◌≡◌ {A = Result ℕ MemoryFault} (Ok 0) (read_of unfit_memory a)
 unfit_read a h =
