@@ -10,6 +10,7 @@ use std::process::Abort;
 #[derive(Clone, Copy)]
 pub(crate) struct Put(pub u32, pub Datum, pub Result<(), u8>, pub &'static str);
 
+// Only these tests ask for it, so it is no `From` of the memory's.
 fn value(datum: Datum) -> u32 {
     match datum {
         Datum::Byte(byte) => u32::from(byte),
