@@ -11,6 +11,8 @@ import tempfile
 import time
 
 PROGRAM = "crates/volga/out/volga"
+SIZES = "a size is a multiple of 256 from 256 to 1048576"
+FRAMES = "a paged memory has 1 to 4096 frames"
 # each line of a script, and what is wrong with it (or the answer)
 LINES = [
     (b"list", "error: no module was taken yet"),
@@ -25,6 +27,14 @@ LINES = [
     (b"gate 4", "error: not a number"),
     (b"gate 1048577 4", "error: a marks buffer has at most 1048576 bytes"),
     (b"marks all", "error: too many words"),
+    (b"bytes 0 4", "error: no memory was made yet"),
+    (b"memory", "error: a memory is flat or paged"),
+    (b"memory round 256", "error: a memory is flat or paged"),
+    (b"memory flat", "error: not a number"),
+    (b"memory flat 256 1", "error: too many words"),
+    (b"memory paged 256", "error: not a number"),
+    (b"memory paged 256 1 1", "error: too many words"),
+    (b"bytes 0 0", "error: no memory was made yet"),
     (b"frobnicate 1 2", "error: unknown command"),
     (b"modules 90", "error: unknown command"),
     (b"module 9", "error: an odd number of hexadecimal digits"),
@@ -63,7 +73,26 @@ LINES = [
     (b"\t module\tEbFe 0F84fBfFffff*0x5 \t", "module 32 bytes"),
     (b"list", "0 direct ebfe: jmp    0x0\n" + "".join(f"{2 + 6 * i} direct 0f84fbffffff: je     {3 + 6 * i:#x}\n" for i in range(5)) + "end 32"),
     (b"gate", "refused 7 at 3"),
+    (b"memory flat 512", "memory flat 512"),
+    (b"bytes 0 0x10", "bytes " + "00" * 16),
+    (b"bytes 510 2", "bytes 0000"),
+    (b"bytes 510 4", "refused 11 at 512"),
+    (b"bytes 4294967295 1", "refused 11 at 4294967295"),
+    (b"bytes 4294967295 0", "bytes "),
+    (b"bytes 0 65537", "error: at most 65536 bytes are shown"),
+    (b"bytes 0 65536", "refused 11 at 512"),
+    (b"memory paged 1048576 4096", "memory paged 1048576 4096"),
+    (b"bytes 983040 65536", "bytes " + "00" * 65536),
+    (b"memory paged 256 5", "memory paged 256 5"),
+    (b"bytes 255 2", "refused 11 at 256"),
 ]
+for unfit in (0, 100, 255, 257, 1048832, 4294967295):
+    LINES.append((b"memory flat %d" % unfit, f"refused 10: {SIZES}\nmemory 256"))
+    LINES.append((b"memory paged %d 1" % unfit, f"refused 10: {SIZES}\nmemory 256"))
+for unfit in (0, 4097, 4294967295):
+    LINES.append((b"memory paged 512 %d" % unfit, f"refused 10: {FRAMES}\nmemory 256"))
+    LINES.append((b"bytes 255 1", "bytes 00"))
+    LINES.append((b"bytes 256 1", "refused 11 at 256"))
 
 
 def run(argument, script):

@@ -1,10 +1,10 @@
 -- The command that a line asks for.
-use Rattle.std.specs.Prelude.{◌≡◌, ℕ, true, cond, List, [], ◌∷◌, ◌++◌, take, drop, Some, None, Ok, Err, vec_items, codes, Option, Result}
+use Rattle.std.specs.Prelude.{◌≡◌, ℕ, Bool, true, false, cond, not, ◌&&◌, List, [], ◌∷◌, ◌++◌, take, drop, Some, None, Ok, Err, vec_items, codes, Option, Result, nat_le}
 use Rattle.std.specs.Str.{bytes_eq}
 use Rattle.script.specs.declared.commands.Command.{Command}
 use Rattle.script.specs.declared.commands.Command.TheVariants as command
 use Rattle.script.specs.declared.problems.Problem.{Problem}
-use Rattle.script.specs.declared.problems.Problem.TheVariants.{UnknownCommand, NoNumber, MissingPath, TooManyWords}
+use Rattle.script.specs.declared.problems.Problem.TheVariants.{UnknownCommand, NoNumber, MissingPath, TooManyWords, NoMemoryKind, TooManyShown}
 use Rattle.script.specs.Groups.{bytes_of}
 use Rattle.script.specs.Numbers.{number_of}
 use Rattle.script.specs.Outcomes.{and_then}
@@ -20,6 +20,9 @@ pub data Request : Type 0 where
   gate : Request
   gate_fresh : ℕ → ℕ → Request
   marks : Request
+  flat_memory : ℕ → Request
+  paged_memory : ℕ → ℕ → Request
+  shown_bytes : ℕ → ℕ → Request
 
 -- what a command stands for
 abbrev pub request_of : Command → Request
@@ -30,6 +33,9 @@ request_of (command.Row base count) = row base count
 request_of command.Gate = gate
 request_of (command.GateFresh starts targets) = gate_fresh starts targets
 request_of command.Marks = marks
+request_of (command.FlatMemory size) = flat_memory size
+request_of (command.PagedMemory size frames) = paged_memory size frames
+request_of (command.Bytes address count) = shown_bytes address count
 
 -- a path has at least one character
 abbrev pub path_of : List ℕ → Result Request Problem
@@ -50,6 +56,10 @@ abbrev pub ends_with : {X : Type 0} → X → List ℕ → Result X Problem
 ends_with x [] = Ok x
 ends_with x (c ∷ cs) = Err TooManyWords
 
+-- one number and nothing more
+abbrev pub one_number_of : List ℕ → Result ℕ Problem
+one_number_of text = and_then (number_in (first_word text)) (λ a. ends_with a (rest_of (after_word text)))
+
 -- two numbers and nothing more
 abbrev pub two_numbers_of : List ℕ → Result (ℕ × ℕ) Problem
 two_numbers_of text =
@@ -64,6 +74,31 @@ abbrev pub gate_of : List ℕ → Result Request Problem
 gate_of [] = Ok gate
 gate_of (c ∷ cs) = and_then (two_numbers_of (c ∷ cs)) (λ x. Ok (gate_fresh x.0 x.1))
 
+-- after the words memory flat: a size
+abbrev pub flat_of : List ℕ → Result Request Problem
+flat_of rest = and_then (one_number_of rest) (λ size. Ok (flat_memory size))
+
+-- after the words memory paged: a size and how many frames
+abbrev pub paged_of : List ℕ → Result Request Problem
+paged_of rest = and_then (two_numbers_of rest) (λ x. Ok (paged_memory x.0 x.1))
+
+-- a memory by the name of its kind and what stands after it
+abbrev pub kind_of : List ℕ → List ℕ → Result Request Problem
+kind_of name rest = cond (bytes_eq name (codes "flat")) (flat_of rest) (cond (bytes_eq name (codes "paged")) (paged_of rest) (Err NoMemoryKind))
+
+-- a first word is the name of a kind
+abbrev pub from_kind : Option (List ℕ) → List ℕ → Result Request Problem
+from_kind None rest = Err NoMemoryKind
+from_kind (Some name) rest = kind_of name rest
+
+-- after the word memory: a kind and its numbers
+abbrev pub memory_of : List ℕ → Result Request Problem
+memory_of rest = from_kind (first_word rest) (rest_of (after_word rest))
+
+-- after the word bytes: an address and how many bytes, at most 65536
+abbrev pub shown_of : List ℕ → Result Request Problem
+shown_of rest = and_then (two_numbers_of rest) (λ x. cond (nat_le x.1 65536) (Ok (shown_bytes x.0 x.1)) (Err TooManyShown))
+
 -- a command by its name and what stands after it
 abbrev pub named_of : List ℕ → List ℕ → Result Request Problem
 named_of name rest =
@@ -71,7 +106,9 @@ named_of name rest =
     (cond (bytes_eq name (codes "list")) (ends_with listing rest)
     (cond (bytes_eq name (codes "row")) (row_of rest)
     (cond (bytes_eq name (codes "gate")) (gate_of rest)
-    (cond (bytes_eq name (codes "marks")) (ends_with marks rest) (Err UnknownCommand)))))
+    (cond (bytes_eq name (codes "marks")) (ends_with marks rest)
+    (cond (bytes_eq name (codes "memory")) (memory_of rest)
+    (cond (bytes_eq name (codes "bytes")) (shown_of rest) (Err UnknownCommand)))))))
 
 -- a first word is the name of a command, and without one there is none
 abbrev pub from_word : Option (List ℕ) → List ℕ → Result (Option Request) Problem
@@ -81,6 +118,23 @@ from_word (Some name) rest = and_then (named_of name rest) (λ request. Ok (Some
 -- the command that a line asks for, if it asks for one
 abbrev pub command_of : List ℕ → Result (Option Request) Problem
 command_of line = from_word (first_word (content_of line)) (rest_of (after_word (content_of line)))
+
+-- after the word module: no @, so bytes
+abbrev pub in_bytes : List ℕ → Bool
+in_bytes rest = not (bytes_eq (take 1 rest) (codes "@"))
+
+-- a name and what stands after it ask for a module in bytes
+abbrev pub names_bytes : List ℕ → List ℕ → Bool
+names_bytes name rest = bytes_eq name (codes "module") && in_bytes rest
+
+-- so does a first word with that name
+abbrev pub from_bytes : Option (List ℕ) → List ℕ → Bool
+from_bytes None rest = false
+from_bytes (Some name) rest = names_bytes name rest
+
+-- a line asks for a module in bytes
+abbrev pub asks_bytes : List ℕ → Bool
+asks_bytes line = from_bytes (first_word (content_of line)) (rest_of (after_word (content_of line)))
 
 -- a comment at the end of a line changes nothing
 abbrev pub CommentUnread : List ℕ → Type 0

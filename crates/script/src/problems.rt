@@ -27,6 +27,12 @@ pub enum Problem {
     NoVerdict,
     /// A marks buffer is too large for this program.
     TooManyMarks,
+    /// After the word `memory` stands neither `flat` nor `paged`.
+    NoMemoryKind,
+    /// The command needs a memory, and none was made yet.
+    NoMemory,
+    /// More bytes are to be shown than one line shows.
+    TooManyShown,
 }
 
 impl Problem {
@@ -48,6 +54,9 @@ impl Problem {
             Problem::NoModule => "no module was taken yet",
             Problem::NoVerdict => "no module was judged yet",
             Problem::TooManyMarks => "a marks buffer has at most 1048576 bytes",
+            Problem::NoMemoryKind => "a memory is flat or paged",
+            Problem::NoMemory => "no memory was made yet",
+            Problem::TooManyShown => "at most 65536 bytes are shown",
         }
     }
 }

@@ -2,9 +2,11 @@
 //! and prints what came of it. What matters is in the libraries below.
 #![tactic(auto)]
 
+mod faults;
 mod files;
 mod marks;
 mod session;
+mod store;
 
 use anyhow::ensure;
 use session::Session;

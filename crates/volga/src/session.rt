@@ -1,36 +1,20 @@
 //! What the program holds between two lines of a script, and what a line does with it.
+use crate::faults::Fault;
 use crate::files::load;
 use crate::marks::Marks;
+use crate::store::{Store, flat, paged, tell_made};
+use answers::memories::MemoryAnswer;
 use gate::entries::EntryRow;
 use gate::passes::{Pass, gate};
 use gate::readers::Reader;
 use listing::lines::Line;
+use memory::flat::Flat;
+use memory::paged::Paged;
 use script::answers::Answer;
 use script::commands::{Command, parse};
 use script::problems::Problem;
 use std::alloc::Global;
 use std::io;
-
-/// Why a line has no answer.
-#[derive(Drop)]
-enum Fault {
-    /// The line could not be carried out.
-    Line(Problem),
-    /// The answer could not be printed.
-    Output(io::Error),
-}
-
-impl From<Problem> for Fault {
-    fn from(problem: Problem) -> Fault {
-        Fault::Line(problem)
-    }
-}
-
-impl From<io::Error> for Fault {
-    fn from(error: io::Error) -> Fault {
-        Fault::Output(error)
-    }
-}
 
 /// A module: bytes that have not passed, or a pass that holds them.
 #[derive(Drop)]
@@ -70,6 +54,7 @@ pub(crate) struct Session {
     row: EntryRow,
     kept: Marks,
     judged: Option<Judged>,
+    store: Option<Store>,
     well: bool,
 }
 
@@ -110,6 +95,7 @@ impl Session {
             row: EntryRow { base: 64, count: 0 },
             kept: Marks::new(heap, 8192, 8192, 0)?,
             judged: None,
+            store: None,
             well: true,
         })
     }
@@ -172,6 +158,27 @@ impl Session {
         Ok(())
     }
 
+    fn make_flat(&mut self, rt: &HostRuntime, size: u32) -> Result<(), Fault> {
+        let memory = flat(rt.alloc(), size)?;
+        let answer = MemoryAnswer::MadeFlat { size };
+        tell_made(rt, Flat::check(size as usize), answer, &memory)?;
+        self.store = Some(Store::Flat(memory));
+        Ok(())
+    }
+
+    fn make_paged(&mut self, rt: &HostRuntime, size: u32, frames: u32) -> Result<(), Fault> {
+        let memory = paged(rt.alloc(), size, frames)?;
+        let answer = MemoryAnswer::MadePaged { size, frames };
+        tell_made(rt, Paged::check(size, frames as usize), answer, &memory)?;
+        self.store = Some(Store::Paged(memory));
+        Ok(())
+    }
+
+    fn show_bytes(&self, rt: &HostRuntime, address: u32, count: u32) -> Result<(), Fault> {
+        let store = self.store.as_ref().ok_or(Problem::NoMemory)?;
+        store.show(rt, address, count)
+    }
+
     fn answer(&mut self, rt: &HostRuntime, text: &[u8]) -> Result<(), Fault> {
         let Some(command) = parse(rt.alloc(), text)? else {
             return Ok(());
@@ -184,6 +191,9 @@ impl Session {
             Command::Gate => self.judge_kept(rt),
             Command::GateFresh(starts, targets) => self.judge_fresh(rt, starts, targets),
             Command::Marks => self.show_marks(rt),
+            Command::FlatMemory(size) => self.make_flat(rt, size),
+            Command::PagedMemory(size, frames) => self.make_paged(rt, size, frames),
+            Command::Bytes(address, count) => self.show_bytes(rt, address, count),
         }
     }
 
