@@ -166,3 +166,15 @@ target_of_lem bs p n (Some d) h e = target_by bs p d.length n d.instruction (dec
 
 pub target_is : (bs : List ℕ) (p n : ℕ) → direct_length_of bs p ≡ Some n → direct_target_of bs p ≡ Some (target_by_length bs p n)
 target_is bs p n e = target_of_lem bs p n (decoded_at bs p) refl e
+
+no_target_by : (m p : ℕ) (i : Instruction) → if_direct m i ≡ None → target_in (Some (instruction_of i m)) p ≡ None
+no_target_by m p (Straight i) e = refl
+no_target_by m p (Loose i) e = refl
+no_target_by m p (Direct i) e = let z : ◌≡◌ {A = ℕ} 0 1 = cc in absurd (omega arith)
+
+no_target_of : (p : ℕ) (o : Option Decoded) → of_direct o ≡ None → target_in o p ≡ None
+no_target_of p None e = refl
+no_target_of p (Some d) e = no_target_by d.length p d.instruction e
+
+pub no_target : (bs : List ℕ) (p : ℕ) → direct_length_of bs p ≡ None → direct_target_of bs p ≡ None
+no_target bs p e = no_target_of p (decoded_at bs p) e

@@ -3,6 +3,7 @@ ghost use Rattle.std.specs.Prelude.{◌≡◌, IfSome, Some};
 ghost use Rattle.x86.specs.Laws.{Inside};
 ghost use Rattle.automata.specs.Lengths.{direct_length_of, direct_target_of, displacement_in, target_by_length};
 
+use crate::patterns::Directs;
 use crate::walks::{Automaton, walk};
 use x86::code::Code;
 use x86::decoding::number_at;
@@ -39,4 +40,13 @@ pub fn target<C: Code>(code: &C, at: u32, length: u32) -> u32
 {
     let displacement = displacement(code, at, length);
     at.wrapping_add(length).wrapping_add(displacement)
+}
+
+/// Where the direct form at an address goes to, modulo 2^32.
+#[tactic(auto, using(crate::proofs::Targets::no_target))]
+pub fn direct_target<C: Code>(code: &C, at: u32) -> Option<u32>
+    ensures { result ≡ direct_target_of (C.bytes code.now) at }
+{
+    let length = length(&Directs, code, at)?;
+    Some(target(code, at, length))
 }

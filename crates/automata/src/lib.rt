@@ -5,4 +5,4 @@
 pub mod lengths;
 pub mod patterns;
 mod tables;
-pub mod walks;
+mod walks;

@@ -1,4 +1,4 @@
-//! The three patterns, each with its table.
+//! The three patterns, each with its table and the proof that it decides what the grammar says: so a type each, with its laws.
 ghost use Rattle.std.specs.Prelude.{◌≡◌};
 ghost use Rattle.automata.specs.Straights.{straight_next};
 ghost use Rattle.automata.specs.Directs.{direct_next};

@@ -59,6 +59,10 @@ pub shown_is : (image : List ℕ) (row : EntryRow) (f : ℕ → Bool) (n s t : �
 shown_is image row f n s t shown old e d is =
     ap (λ xs. xs ++ drop (n / 8) old) is ∙ shown_before (found image row) f (n / 8) old (late_found image row) ∙ ap (λ n. marks_after (found image row) f (n / 8) old) e ∙ sym (ap (λ o. marks_after o f (length image / 8) old) d)
 
+-- a whole image has a byte of marks for each eight bytes
+pub eights : (n : ℕ) (image : List ℕ) → n ≡ length image → fits_length n ≡ true → length image ≡ 8 * (n / 8)
+eights n image e fit = sym e ∙ (size_of n (sym fit)).whole
+
 pub room_aside : (image : List ℕ) (row : EntryRow) (s t : ℕ) → length image / 8 ≤ s → length image / 8 ≤ t →
     verdict_of image row s t ≡ verdict_of image row (length image / 8) (length image / 8)
 room_aside image row s t hs ht =

@@ -1,6 +1,7 @@
 -- A verdict in numbers.
-use Rattle.std.specs.Prelude.{ℕ, Some, None, Option}
+use Rattle.std.specs.Prelude.{ℕ, Some, None, Ok, Err, Option, Result}
 use Rattle.std.specs.Option.{unwrap_or}
+use Rattle.gate.specs.declared.exports.Verdict.{Verdict}
 use Rattle.gate.specs.declared.refusals.Refusal.{Refusal}
 use Rattle.gate.specs.Refusals.{number_of, address_of}
 
@@ -13,3 +14,8 @@ number_in (Some r) = number_of r
 abbrev pub address_in : Option Refusal → ℕ
 address_in None = 0
 address_in (Some r) = unwrap_or (address_of r) 0
+
+-- a verdict in numbers
+abbrev pub in_numbers : Result (Unit {0}) Refusal → Verdict
+in_numbers (Ok x) = record { number = 0; address = 0 }
+in_numbers (Err r) = record { number = number_of r; address = unwrap_or (address_of r) 0 }

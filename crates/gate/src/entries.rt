@@ -17,7 +17,7 @@ impl EntryRow {
         self.count <= 64
             && n <= self.base
             && self.base % 32 == 0
-            && self.base as u64 + 32 * self.count as u64 <= 0x1_0000_0000
+            && u64::from(self.base) + 32 * u64::from(self.count) <= 0x1_0000_0000
     }
 
     /// Whether an entry begins at the address.

@@ -13,7 +13,7 @@ pub fn length_fits(n: usize) -> bool
     n != 0 && n <= 65536 && n % 32 == 0
 }
 
-/// Code of a length that an image may have.
+/// Code of a length that an image may have: asked once, and as a `u32`, as addresses are.
 #[derive(Drop)]
 pub(crate) struct Image<'a, C: Code> {
     pub code: &'a C,

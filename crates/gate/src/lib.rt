@@ -4,6 +4,7 @@
 
 pub mod elements;
 pub mod entries;
+pub mod exports;
 pub mod images;
 pub mod laws;
 mod marks;

@@ -14,7 +14,8 @@ pub(crate) fn mark(buffer: &mut [u8], address: u32)
 }
 
 /// The lowest address that has to be a start and is none.
-// Under `zip` and `enumerate` together no lemma says which bytes a turn has, so the targets go by index.
+// The targets go by index. With both buffers under `zip` and `enumerate` the proof did not close: that a turn's bytes are those at
+// its index (`loop-i-preserved` and both refusals) follows from no lemma.
 pub(crate) fn compare(starts: &[u8], targets: &[u8]) -> Result<(), Refusal>
     requires { (length starts.now ≤ length targets.now) × (length starts.now ≤ 8192) }
     ensures { result ≡ answer (misplaced (bit_at starts.now) (bit_at targets.now) (8 * length starts.now)) }

@@ -32,7 +32,7 @@ fn settle<C: Code>(
     verdict
 }
 
-// The checks in their order.
+// The checks in their order: the equation, to which `judge` adds what it means for the policy.
 fn checked<C: Code>(
     code: &C,
     row: EntryRow,

@@ -1,42 +1,16 @@
-//! The gate for callers in C, as a static library: the verdict in numbers.
+//! The gate for callers in C, as a static library.
 #![tactic(auto)]
 
 ghost use Rattle.std.specs.Prelude.{◌≡◌, length};
 ghost use Rattle.gate.specs.Exports.{number_in, address_in};
 ghost use Rattle.gate.specs.Verdicts.{starts_after, targets_after, verdict_of};
-ghost use Rattle.gate_c.specs.Numbers.{in_numbers};
 
 use gate::entries::EntryRow;
-use gate::refusals::Refusal;
+use gate::exports::Verdict;
 use gate::verdicts::judge;
 
-/// 0 for a pass, or the number of the check that refuses and the address that it is about: a flag with a value beside it, since
-/// C has no `Result`.
-#[repr(C)]
-#[derive(Clone, Copy)]
-pub struct Verdict {
-    pub number: u32,
-    pub address: u32,
-}
-
-impl From<Result<(), Refusal>> for Verdict {
-    ghost from_gives = { λ v r. r ≡ in_numbers v };
-
-    fn from(verdict: Result<(), Refusal>) -> Verdict {
-        match verdict {
-            Ok(()) => Verdict {
-                number: 0,
-                address: 0,
-            },
-            Err(refusal) => Verdict {
-                number: u32::from(refusal.number()),
-                address: refusal.address().unwrap_or(0),
-            },
-        }
-    }
-}
-
 /// Judges an image as `gate::verdicts::judge` does.
+// The clauses of `judge` once more, in numbers: C has no `Result` and no `EntryRow`.
 #[unsafe(no_mangle)]
 pub extern "C" fn gate_judge(
     image: &[u8],

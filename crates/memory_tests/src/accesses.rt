@@ -2,13 +2,18 @@
 use crate::tested::Tested;
 use memory::data::Datum;
 use memory::faults::MemoryFault;
+use memory::faults::MemoryFault::{NoFreePage, Outside};
 use memory::memories::Memory;
 use std::process::Abort;
 
-/// A put's address and datum, what it is to answer, and why. A refusal is told by its number in the rules, and names the
-/// put's address.
+/// A put's address and datum, what it is to answer, and why.
 #[derive(Clone, Copy)]
-pub(crate) struct Put(pub u32, pub Datum, pub Result<(), u8>, pub &'static str);
+pub(crate) struct Put(
+    pub u32,
+    pub Datum,
+    pub Result<(), MemoryFault>,
+    pub &'static str,
+);
 
 // Only these tests ask for it, so it is no `From` of the memory's.
 fn value(datum: Datum) -> u32 {
@@ -32,18 +37,12 @@ impl<R: Abort, M: Memory> Tested<'_, R, M> {
         let (rt, name) = (self.rt, self.name);
         for Put(at, datum, expected, why) in cases {
             let before = self.there(*at, *datum);
-            let after = match expected {
+            let after = match *expected {
                 Ok(()) => Ok(value(*datum)),
-                Err(11) => Err(MemoryFault::Outside(*at)),
-                Err(_) => before,
+                Err(Outside(address)) => Err(Outside(address)),
+                Err(NoFreePage(_)) => before,
             };
-            let answer = self.memory.put(*at, *datum);
-            assert_eq!(rt;
-                answer.map_err(|fault| (fault.number(), fault.address())),
-                expected.map_err(|number| (number, *at)),
-                "{name}: {}",
-                *why
-            );
+            assert_eq!(rt; self.memory.put(*at, *datum), *expected, "{name}: {}", *why);
             assert_eq!(rt; self.there(*at, *datum), after, "{name}: {}", *why);
         }
     }

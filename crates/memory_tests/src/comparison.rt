@@ -6,6 +6,7 @@ use memory::data::Datum;
 use memory::faults::MemoryFault;
 use memory::memories::Memory;
 use std::alloc::AllocError;
+use std::fmt::Debug;
 use std::process::Abort;
 use std::test::Fail;
 
@@ -91,40 +92,37 @@ struct Comparison<'a, 'b, R, M> {
 }
 
 impl<R: Abort, M: Memory> Comparison<'_, '_, R, M> {
-    fn put(&mut self, turn: u32, at: u32, datum: Datum) {
-        let answer = self.memory.put(at, datum);
-        self.tally.count(answer);
+    fn same<T: PartialEq + Debug + Drop>(
+        &self,
+        turn: u32,
+        what: &str,
+        at: u32,
+        answer: Result<T, MemoryFault>,
+        wanted: Result<T, MemoryFault>,
+    ) {
         let (rt, tally) = (self.rt, &*self.tally);
         assert_eq!(rt;
             answer,
-            self.model.put(at, datum),
-            "{}, size {}, turn {turn}: put of {} bytes at {at}",
-            tally.name,
-            tally.size,
-            datum.width()
+            wanted,
+            "{}, size {}, turn {turn}: {what} at {at}",
+            tally.name, tally.size
         );
+    }
+
+    fn put(&mut self, turn: u32, at: u32, datum: Datum) {
+        let answer = self.memory.put(at, datum);
+        self.tally.count(answer);
+        let wanted = self.model.put(at, datum);
+        self.same(turn, "put", at, answer, wanted);
     }
 
     fn read(&self, turn: u32, at: u32) {
-        let (rt, tally) = (self.rt, &*self.tally);
-        assert_eq!(rt;
-            self.memory.read(at),
-            self.model.read(at),
-            "{}, size {}, turn {turn}: read at {at}",
-            tally.name,
-            tally.size
-        );
+        self.same(turn, "read", at, self.memory.read(at), self.model.read(at));
     }
 
     fn read_long(&self, turn: u32, at: u32) {
-        let (rt, tally) = (self.rt, &*self.tally);
-        assert_eq!(rt;
-            self.memory.read_long(at),
-            self.model.read_long(at),
-            "{}, size {}, turn {turn}: read_long at {at}",
-            tally.name,
-            tally.size
-        );
+        let (answer, wanted) = (self.memory.read_long(at), self.model.read_long(at));
+        self.same(turn, "read_long", at, answer, wanted);
     }
 
     fn turn(&mut self, turn: u32) {

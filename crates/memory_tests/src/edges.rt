@@ -3,6 +3,7 @@ use crate::accesses::Put;
 use crate::made::{flat, paged};
 use crate::tested::Tested;
 use memory::data::Datum::{Byte, Long};
+use memory::faults::MemoryFault::Outside;
 use memory::memories::Memory;
 use std::process::Abort;
 use std::test::Fail;
@@ -19,15 +20,50 @@ const OVER_THE_EDGE: [(u32, &str); 5] = [
 const AT_THE_END: [Put; 12] = [
     Put(511, Byte(9), Ok(()), "the last byte"),
     Put(508, Long(0x0403_0201), Ok(()), "the last four bytes"),
-    Put(512, Byte(9), Err(11), "past the end"),
-    Put(509, Long(9), Err(11), "its last byte is past the end"),
-    Put(510, Long(9), Err(11), "two bytes are past the end"),
-    Put(511, Long(9), Err(11), "three bytes are past the end"),
-    Put(512, Long(9), Err(11), "all four are past the end"),
-    Put(4_294_967_295, Byte(9), Err(11), "the last address"),
-    Put(4_294_967_295, Long(9), Err(11), "the sum wraps to 3"),
-    Put(4_294_967_293, Long(9), Err(11), "the sum wraps to 1"),
-    Put(4_294_967_292, Long(9), Err(11), "the sum wraps to 0"),
+    Put(512, Byte(9), Err(Outside(512)), "past the end"),
+    Put(
+        509,
+        Long(9),
+        Err(Outside(509)),
+        "its last byte is past the end",
+    ),
+    Put(
+        510,
+        Long(9),
+        Err(Outside(510)),
+        "two bytes are past the end",
+    ),
+    Put(
+        511,
+        Long(9),
+        Err(Outside(511)),
+        "three bytes are past the end",
+    ),
+    Put(512, Long(9), Err(Outside(512)), "all four are past the end"),
+    Put(
+        4_294_967_295,
+        Byte(9),
+        Err(Outside(4_294_967_295)),
+        "the last address",
+    ),
+    Put(
+        4_294_967_295,
+        Long(9),
+        Err(Outside(4_294_967_295)),
+        "the sum wraps to 3",
+    ),
+    Put(
+        4_294_967_293,
+        Long(9),
+        Err(Outside(4_294_967_293)),
+        "the sum wraps to 1",
+    ),
+    Put(
+        4_294_967_292,
+        Long(9),
+        Err(Outside(4_294_967_292)),
+        "the sum wraps to 0",
+    ),
     Put(508, Long(5), Ok(()), "the refusals left it usable"),
 ];
 

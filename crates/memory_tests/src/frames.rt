@@ -3,36 +3,71 @@ use crate::accesses::Put;
 use crate::made::paged;
 use crate::tested::Tested;
 use memory::data::Datum::{Byte, Long};
-use memory::faults::MemoryFault::NoFreePage;
+use memory::faults::MemoryFault::{NoFreePage, Outside};
 use memory::memories::Memory;
 use std::test::Fail;
 
 // Three pages, one frame: after the first line it is still free for either page.
 const FRAME_TO_THE_FIRST: [Put; 8] = [
-    Put(254, Long(9), Err(12), "two to hold, one frame free"),
+    Put(
+        254,
+        Long(9),
+        Err(NoFreePage(254)),
+        "two to hold, one frame free",
+    ),
     Put(255, Byte(1), Ok(()), "the first page gets the frame"),
-    Put(253, Long(9), Err(12), "the second has no frame"),
+    Put(
+        253,
+        Long(9),
+        Err(NoFreePage(253)),
+        "the second has no frame",
+    ),
     Put(252, Long(7), Ok(()), "a held page needs no frame"),
-    Put(256, Byte(9), Err(12), "the second has no frame"),
-    Put(767, Byte(9), Err(12), "the last byte is inside"),
-    Put(766, Long(9), Err(11), "outside comes before no frame"),
-    Put(768, Byte(9), Err(11), "outside comes before no frame"),
+    Put(
+        256,
+        Byte(9),
+        Err(NoFreePage(256)),
+        "the second has no frame",
+    ),
+    Put(
+        767,
+        Byte(9),
+        Err(NoFreePage(767)),
+        "the last byte is inside",
+    ),
+    Put(
+        766,
+        Long(9),
+        Err(Outside(766)),
+        "outside comes before no frame",
+    ),
+    Put(
+        768,
+        Byte(9),
+        Err(Outside(768)),
+        "outside comes before no frame",
+    ),
 ];
 
 const FRAME_TO_THE_SECOND: [Put; 5] = [
-    Put(254, Long(9), Err(12), "two to hold, one frame free"),
+    Put(
+        254,
+        Long(9),
+        Err(NoFreePage(254)),
+        "two to hold, one frame free",
+    ),
     Put(256, Byte(1), Ok(()), "the second page gets the frame"),
-    Put(253, Long(9), Err(12), "the first has no frame"),
+    Put(253, Long(9), Err(NoFreePage(253)), "the first has no frame"),
     Put(508, Long(7), Ok(()), "a held page needs no frame"),
-    Put(255, Byte(9), Err(12), "the first has no frame"),
+    Put(255, Byte(9), Err(NoFreePage(255)), "the first has no frame"),
 ];
 
 // Three pages and two frames from here on.
 const NEITHER_HELD: [Put; 5] = [
     Put(254, Long(9), Ok(()), "two to hold, two frames free"),
     Put(253, Long(8), Ok(()), "both are held"),
-    Put(512, Byte(9), Err(12), "the third has no frame"),
-    Put(509, Long(9), Err(12), "the third has no frame"),
+    Put(512, Byte(9), Err(NoFreePage(512)), "the third has no frame"),
+    Put(509, Long(9), Err(NoFreePage(509)), "the third has no frame"),
     Put(508, Long(7), Ok(()), "the end of a held page"),
 ];
 

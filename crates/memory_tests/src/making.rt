@@ -35,13 +35,18 @@ const FRAMES: [(usize, Result<(), Unfit>, &str); 5] = [
 
 // To a memory of 256 bytes, no page held and none free.
 const NOTHING_KEPT: [Put; 7] = [
-    Put(0, Byte(9), Err(12), "the first byte"),
-    Put(255, Byte(9), Err(12), "the last byte"),
-    Put(0, Long(9), Err(12), "the first four bytes"),
-    Put(252, Long(9), Err(12), "the last four bytes"),
-    Put(253, Long(9), Err(11), "its last byte is past the end"),
-    Put(256, Byte(9), Err(11), "past the end"),
-    Put(256, Long(9), Err(11), "past the end"),
+    Put(0, Byte(9), Err(NoFreePage(0)), "the first byte"),
+    Put(255, Byte(9), Err(NoFreePage(255)), "the last byte"),
+    Put(0, Long(9), Err(NoFreePage(0)), "the first four bytes"),
+    Put(252, Long(9), Err(NoFreePage(252)), "the last four bytes"),
+    Put(
+        253,
+        Long(9),
+        Err(Outside(253)),
+        "its last byte is past the end",
+    ),
+    Put(256, Byte(9), Err(Outside(256)), "past the end"),
+    Put(256, Long(9), Err(Outside(256)), "past the end"),
 ];
 
 impl<R: Abort, M: Memory> Tested<'_, R, M> {

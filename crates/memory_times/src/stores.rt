@@ -37,6 +37,7 @@ impl<M: Memory> Store for Proved<M> {
 }
 
 /// What a programmer would write who has a buffer and no pages: a test of the bounds, and the access.
+// By index: with `get_mut` a put of a byte takes six times as long.
 #[derive(Drop)]
 pub(crate) struct Plain(pub Vec<u8>);
 

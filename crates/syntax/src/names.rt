@@ -4,7 +4,7 @@ ghost use Rattle.syntax.specs.Names.{register_name, byte_register_name, segment_
 
 use x86::registers::{ByteRegister, Condition, Operation, Register, Scale, SegmentRegister, Width};
 
-/// What the syntax has one fixed word for.
+/// What the syntax has one fixed word for: a trait, and a table for each type, which share nothing but their shape.
 pub trait Named {
     ghost word: { Self → List ℕ };
 

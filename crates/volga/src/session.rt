@@ -115,9 +115,8 @@ impl Session {
     // A pass was given with the row before, so it is let go.
     fn set_row(&mut self, rt: &HostRuntime, base: u32, count: u32) -> Result<(), Fault> {
         self.row = EntryRow { base, count };
-        if let Some(module) = self.module.take() {
-            self.module = Some(Module::Bytes(module.into_bytes()));
-        }
+        let module = self.module.take();
+        self.module = module.map(|module| Module::Bytes(module.into_bytes()));
         println!(rt; "{}", Answer::Rowed { base, count })?;
         Ok(())
     }

@@ -106,6 +106,7 @@ impl<C: Code> Cursor<'_, C> {
     fn formed(&mut self, form: Form, number: u8) -> Option<Instruction>
         requires { self.old.at < 2 ^ 33 }
         ensures value { option_map (λ i. (i, self.new.at)) result ≡ form_at (C.bytes self.old.code.now) self.old.at form number }
+        ensures code { self.new.code ≡ self.old.code }
         ensures bound { (self.old.at ≤ self.new.at) × (self.new.at ≤ self.old.at + 10) }
     {
         match form {
@@ -126,6 +127,7 @@ impl<C: Code> Cursor<'_, C> {
     fn instruction(&mut self) -> Option<Instruction>
         requires { self.old.at < 2 ^ 32 }
         ensures value { option_map (λ i. (i, self.new.at)) result ≡ read_at (C.bytes self.old.code.now) self.old.at }
+        ensures code { self.new.code ≡ self.old.code }
         ensures bound { (self.old.at < self.new.at) × (self.new.at ≤ self.old.at + 12) }
     {
         let opcode = self.byte();
@@ -180,7 +182,7 @@ fn index(scale: u8, number: u8) -> Index
     }
 }
 
-// The instruction at a place, if it ends inside the bytes.
+// The instruction at a place, if it ends inside the bytes. Apart from `decode`, so that its laws need no proof at each return.
 fn bounded<C: Code>(code: &C, at: u32) -> Option<Decoded>
     ensures value { result ≡ decoded_at (C.bytes code.now) at }
     ensures inside { IfSome result (λ d. Inside (C.bytes code.now) at d.length) }

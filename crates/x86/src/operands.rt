@@ -39,7 +39,8 @@ pub enum RegisterOrMemory {
     Memory(Address),
 }
 
-/// What a ModRM byte says: reg, the operand that mod and rm name, and the place after that operand's last byte.
+/// What a ModRM byte says: reg, the operand that mod and rm name, and the place after that operand's last byte, of which the
+/// definition speaks and which a reader has by its own place.
 #[derive(Clone, Copy)]
 pub struct Modrm {
     pub reg: u8,

@@ -73,7 +73,7 @@ fn transferred(number: u8, byte: u8) -> Option<Pair>
     })
 }
 
-// The pair at a place, if it ends inside the bytes.
+// The pair at a place, if it ends inside the bytes. Apart from `recognise`, so that its laws need no proof at each return.
 fn bounded<C: Code>(code: &C, at: u32) -> Option<Pair>
     ensures value { result ≡ pair_at (C.bytes code.now) at }
     ensures inside { OnSome result (Inside (C.bytes code.now) at 5) }

@@ -1,6 +1,6 @@
 //! Registers, operations, conditions and widths, each with the number that Intel's tables give it.
 ghost use Rattle.std.specs.Prelude.{◌≡◌};
-ghost use Rattle.x86.specs.Numbers.{register_of, byte_register_of, segment_of, operation_of, condition_of, scale_of, width_bytes};
+ghost use Rattle.x86.specs.Numbers.{register_of, byte_register_of, segment_of, operation_of, condition_of, scale_of};
 
 /// A 32-bit register.
 #[derive(Clone, Copy)]
@@ -135,17 +135,6 @@ impl SegmentRegister {
             4 => Some(Self::Fs),
             5 => Some(Self::Gs),
             _ => None,
-        }
-    }
-}
-
-impl Width {
-    pub(crate) fn bytes(self) -> usize
-        ensures { result ≡ width_bytes self }
-    {
-        match self {
-            Self::Byte => 1,
-            Self::Long => 4,
         }
     }
 }

@@ -137,6 +137,7 @@ impl Paged {
         requires second { holds (paged_view self.old) (at / 256 + 1) ≡ true }
         ensures { paged_view self.new ≡ with_bytes (paged_view self.old) at (parts (Datum.Long number)) }
     {
+        // No loop: what it would have to keep is longer than the four lines.
         let [b0, b1, b2, b3] = number.to_le_bytes();
         self.set(at, b0);
         self.set(at + 1, b1);

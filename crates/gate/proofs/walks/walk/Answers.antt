@@ -1,6 +1,6 @@
 use Rattle.std.proofs.Common.{◌≡◌, ◌*◌, ◌/◌, ◌<◌, length, replicate, sym, ap, ◌∙◌, arith, rules}
 use Rattle.gate.specs.Verdicts.{answer}
-use Rattle.gate.proofs.Judging.{size_of}
+use Rattle.gate.proofs.Judging.{eights}
 use Rattle.gate.proofs.Taken.{pair_taken, straight_taken, direct_taken, none_taken, target_of_pair, target_of_straight, target_of_direct}
 use Rattle.gate.proofs.Turns.{walking_starts, walking_plain, walking_near, walking_entry, walking_far, walking_none, walking_ends, walking_same}
 use Rattle.gate.proofs.walks.walk.Goals as goal
@@ -29,7 +29,7 @@ loop-at-preserved-in-Some g c =
     let bytes = g.C.Code.bytes c.args.image.now.code.now in
     let s = c.args.image.now.whole in
     let h : c.loop-at.at < length bytes = omega (arith, s, c.loop-at-test.true) in
-    let l : length bytes ≡ 8 * (c.args.image.now.size / 8) = sym s ∙ (size_of _ (sym c.args.image.now.fit)).whole in
+    let l : length bytes ≡ 8 * (c.args.image.now.size / 8) = eights _ _ s c.args.image.now.fit in
     let t = pair_taken _ _ _ c.in-Some.ensures.value in
     walking_plain _ _ _ _ _ _ _ _ c.loop-at.invariant h l c.mark.ensures t c.in-Some.ensures.inside (target_of_pair _ _ _ t)
 
@@ -38,7 +38,7 @@ loop-at-preserved-in-Some-length g c =
     let bytes = g.C.Code.bytes c.args.image.now.code.now in
     let s = c.args.image.now.whole in
     let h : c.loop-at.at < length bytes = omega (arith, s, c.loop-at-test.true) in
-    let l : length bytes ≡ 8 * (c.args.image.now.size / 8) = sym s ∙ (size_of _ (sym c.args.image.now.fit)).whole in
+    let l : length bytes ≡ 8 * (c.args.image.now.size / 8) = eights _ _ s c.args.image.now.fit in
     let t = straight_taken _ _ _ c.in_default.ensures.value c.in-Some-length.ensures.value in
     walking_plain _ _ _ _ _ _ _ _ c.loop-at.invariant h l c.mark.ensures t c.in-Some-length.ensures.inside (target_of_straight _ _ _ t)
 
@@ -47,7 +47,7 @@ loop-at-preserved g c =
     let bytes = g.C.Code.bytes c.args.image.now.code.now in
     let s = c.args.image.now.whole in
     let h : c.loop-at.at < length bytes = omega (arith, s, c.loop-at-test.true) in
-    let l : length bytes ≡ 8 * (c.args.image.now.size / 8) = sym s ∙ (size_of _ (sym c.args.image.now.fit)).whole in
+    let l : length bytes ≡ 8 * (c.args.image.now.size / 8) = eights _ _ s c.args.image.now.fit in
     let t = direct_taken _ _ _ c.in_default.ensures.value c.in_default-length.ensures.value c.in-Some-length-2.ensures.value in
     let d = target_of_direct _ _ _ t ∙ c.target-target.ensures.target (sym c.in-Some-length-2.ensures.value) in
     let i = c.in-Some-length-2.ensures.inside in
