@@ -85,6 +85,11 @@ LINES = [
     (b"bytes 983040 65536", "bytes " + "00" * 65536),
     (b"memory paged 256 5", "memory paged 256 5"),
     (b"bytes 255 2", "refused 11 at 256"),
+    (b"memory flat x", "error: not a number"),
+    (b"bytes 255 1", "bytes 00"),
+    (b"memory flat 0x200", "memory flat 512"),
+    (b"bytes 511 1", "bytes 00"),
+    (b"memory paged 0 0", f"refused 10: {SIZES}\nmemory 256"),
 ]
 for unfit in (0, 100, 255, 257, 1048832, 4294967295):
     LINES.append((b"memory flat %d" % unfit, f"refused 10: {SIZES}\nmemory 256"))

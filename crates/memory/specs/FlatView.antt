@@ -1,3 +1,4 @@
+-- A flat memory as the meaning of a memory.
 use Rattle.std.specs.Prelude.{vec_items}
 use Rattle.memory.specs.Flats.{flat_meaning}
 use Rattle.memory.specs.Meaning.{Meaning}

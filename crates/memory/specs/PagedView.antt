@@ -1,3 +1,4 @@
+-- A paged memory as the meaning of a memory.
 use Rattle.std.specs.Prelude.{vec_items}
 use Rattle.memory.specs.Meaning.{Meaning}
 use Rattle.memory.specs.Pages.{paged_meaning}

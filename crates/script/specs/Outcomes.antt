@@ -18,7 +18,7 @@ abbrev pub Answers : {V X : Type 0} → (V → X) → Result X Problem → Resul
 Answers meaning x (Ok v) = x ≡ Ok (meaning v)
 Answers meaning x (Err p) = (p ≢ OutOfMemory) → x ≡ Err p
 
--- memory may be wanting only where bytes are asked for
+-- an answer means what is looked for; only under b may memory have been wanting instead
 abbrev pub AnswersIf : {V X : Type 0} → Bool → (V → X) → Result X Problem → Result V Problem → Type 0
 AnswersIf true meaning x r = Answers meaning x r
 AnswersIf false meaning x r = Says meaning x r

@@ -17,21 +17,21 @@ pub(crate) enum Store {
     Paged(Paged),
 }
 
-// What is above the most that is fit is refused, so no more than one above it is ever allocated.
-const MOST_BYTES: u32 = 1_048_576 + 1;
-
-const MOST_FRAMES: u32 = 4_096 + 1;
+// Of what is refused nothing is kept, so nothing is allocated for it.
+fn kept(checked: Result<(), Unfit>, count: u32) -> usize {
+    if checked.is_ok() { count as usize } else { 0 }
+}
 
 /// A flat memory of zeros.
 pub(crate) fn flat(heap: Global, size: u32) -> Result<Flat, Problem> {
-    let bytes = vec![in heap; 0; size.min(MOST_BYTES) as usize]?;
-    Ok(Flat::new(bytes))
+    let size = kept(Flat::check(size as usize), size);
+    Ok(Flat::new(vec![in heap; 0; size]?))
 }
 
 /// A paged memory over frames that are full of ff, which no script may ever see.
 pub(crate) fn paged(heap: Global, size: u32, count: u32) -> Result<Paged, Problem> {
-    let frames = vec![in heap; [0xff; 256]; count.min(MOST_FRAMES) as usize]?;
-    Ok(Paged::new(size, frames))
+    let count = kept(Paged::check(size, count as usize), count);
+    Ok(Paged::new(size, vec![in heap; [0xff; 256]; count]?))
 }
 
 /// Says what was made, or why that was refused and the size of what was made all the same.
