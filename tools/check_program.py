@@ -100,6 +100,10 @@ for unfit in (0, 4097, 4294967295):
     LINES.append((b"bytes 256 1", "refused 11 at 256"))
 
 
+# what crates/volga/data/memory.volga answers, by docs/memory.md
+SHOWN = f"refused 10: {SIZES}\nmemory 256\nbytes 00000000\nmemory flat 512\nbytes 0000\nrefused 11 at 512\nmemory paged 512 1\nbytes 00000000\n"
+
+
 def run(argument, script):
     done = subprocess.run([PROGRAM, *argument], input=script, capture_output=True)
     return done.returncode, done.stdout.decode()
@@ -127,6 +131,7 @@ def main():
             file.write(bytes(range(0x40, 0x60)))
         status, answer = run([], f"module @{image}\nlist\n".encode())
         check("a module in a file", (status, answer.splitlines()[0], answer.splitlines()[-1]), (0, "module 32 bytes", "end 32"))
+    check("the script about a memory", run(["crates/volga/data/memory.volga"], b""), (0, SHOWN))
     check("a script that is not there", run(["/no/such/script"], b""), (1, ""))
     long = (b"90*65536", b"83e0e0ffe0*13107 90", b"81840801020304aabbccdd*5957 90*9")
     for module in long:

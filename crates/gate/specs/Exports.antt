@@ -17,5 +17,5 @@ address_in (Some r) = unwrap_or (address_of r) 0
 
 -- a verdict in numbers
 abbrev pub in_numbers : Result (Unit {0}) Refusal → Verdict
-in_numbers (Ok x) = record { number = 0; address = 0 }
-in_numbers (Err r) = record { number = number_of r; address = unwrap_or (address_of r) 0 }
+in_numbers (Ok x) = record { number = number_in None; address = address_in None }
+in_numbers (Err r) = record { number = number_in (Some r); address = address_in (Some r) }

@@ -1,6 +1,6 @@
 //! Code that may be an image, by its length.
 ghost use Rattle.std.specs.Prelude.{◌≡◌, true, length};
-ghost use Rattle.gate.specs.Images.{Taken};
+ghost use Rattle.gate.specs.Images.{AsImage};
 ghost use Rattle.gate.specs.Verdicts.{fits_length};
 
 use crate::refusals::Refusal;
@@ -24,7 +24,7 @@ pub(crate) struct Image<'a, C: Code> {
 
 impl<'a, C: Code> Image<'a, C> {
     pub(crate) fn of(code: &'a C) -> Result<Image<'a, C>, Refusal>
-        ensures { Taken (C.bytes code.now) (λ i. C.bytes i.code.now) result }
+        ensures { AsImage (C.bytes code.now) (λ i. C.bytes i.code.now) result }
     {
         let size = code.len();
         if !length_fits(size) {
